@@ -1,0 +1,23 @@
+-- `rows::row_of` meets its contract. Assumes nothing.
+use Prim.Native.Nat.{_*_, _/_, _^_}
+use native.Mathlib.Omega.{arith}
+use borrow.Author.Needs.{needs}
+use lib.Bits.{and-mask}
+use Rattle.bits.proofs.Pairs.{row-shifted}
+use Rattle.bits.proofs.rows.row_of.Statement.{statement}
+use Rattle.bits.proofs.rows.row_of.Tie as tie
+
+mul-result : tie.Need-mul-result
+mul-result c = search needs
+
+shr-result : tie.Need-shr-result
+shr-result c = search needs
+
+cast-result : tie.Need-cast-result
+cast-result c = omega (arith, and-mask (c .args .c / 2 ^ (8 * c .args .q)) 8)
+
+returns : tie.Need-returns
+returns c = row-shifted 8 (c .args .c) (c .args .q)
+
+pub row-of-spec : {M : Type 1} → statement M
+row-of-spec = tie.close (tie.spec mul-result shr-result cast-result returns)

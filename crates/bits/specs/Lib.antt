@@ -1,0 +1,5 @@
+-- The definitions that the contracts cite.
+pub mod Bits
+pub mod Sets
+pub mod Pairs
+pub mod Fields
