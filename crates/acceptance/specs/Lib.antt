@@ -1,0 +1,3 @@
+-- What a reader has to believe, and the sets that words leave behind them.
+pub mod Lasso
+pub mod Contexts
