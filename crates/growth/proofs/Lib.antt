@@ -1,0 +1,21 @@
+-- What is known of every table that grows, and of the tables of stems and periods.
+pub mod Entries
+pub mod Grown
+pub mod Rooms
+pub mod Covered
+pub mod Closed
+pub mod Built
+pub mod Carried
+pub mod Steps
+pub mod Numbered
+pub mod Basis
+pub mod Nodes
+pub mod Linked
+pub mod Packing
+pub mod Offering
+pub mod Members
+pub mod Cells
+pub mod Stems
+pub mod Periods
+pub mod Inclusion
+pub mod AtWork
