@@ -1,0 +1,140 @@
+-- A loop that grows the table step by step: what is left to do with the entries that are there gives the outcome of the whole. Assumes nothing.
+use mathlib.Core.Path.{_≡_, refl, sym, ap, ap₂, _∙_, subst}
+use mathlib.Core.Bool.{Bool}
+use mathlib.Core.List.{List}
+use Prim.Native.Nat.{ℕ, _≤_}
+use native.Mathlib.Omega.{arith}
+use lib.ListN.{length, length-map}
+use Rattle.growth.specs.declared.Growth.{Growth}
+use Rattle.growth.specs.declared.Growth.the-variants.{Ended, Full}
+use Rattle.growth.specs.Grow.{Outcome, ended, onward, entries, offer}
+use Rattle.growth.specs.Lent.{over}
+use Rattle.growth.proofs.Offering.{ended-is, full-is, offer-longer, offer-within, over-over}
+use Rattle.periods.specs.Periods.{Period}
+use Rattle.periods.specs.Lent.{linksOf, contextsOf, held, Leaves}
+use Rattle.periods.specs.Chained.{Chained}
+use Rattle.periods.specs.Growing.{Ready, Grows}
+use Rattle.periods.proofs.Lent.{contexts-length, held-length, held-over}
+use Rattle.periods.proofs.Appended.{unchanged}
+
+-- the tables hold n entries over what came, and `rest` of these is the outcome o
+pub record Going (room : ℕ) (o : Outcome Period) (rest : List Period → Outcome Period) (links₀ links contexts₀ contexts latest₀ latest earlier₀ earlier : List ℕ) (n : ℕ) : Type 0 where
+  pub ready : Ready room n links contexts latest earlier
+  pub goal : rest (held n links contexts) ≡ o
+  pub links-left : links ≡ over (linksOf (held n links contexts)) links₀
+  pub contexts-left : contexts ≡ over (contextsOf (held n links contexts)) contexts₀
+  pub links-long : length links ≡ length links₀
+  pub contexts-long : length contexts ≡ length contexts₀
+  pub latest-long : length latest ≡ length latest₀
+  pub earlier-long : length earlier ≡ length earlier₀
+
+-- after candidates that had room the tables are ready for more
+pub ready-on : {room n : ℕ} {links contexts latest earlier : List ℕ} → Ready room n links contexts latest earlier → (covers : Period → Period → Bool) (cs : List Period)
+    {r : Growth} {m : ℕ} {links′ contexts′ latest′ earlier′ : List ℕ} → r ≡ Ended m → Grows (offer covers room (held n links contexts) cs) r links links′ contexts contexts′ latest′ earlier′
+    → length links′ ≡ length links → length contexts′ ≡ length contexts → length latest′ ≡ length latest → length earlier′ ≡ length earlier
+    → Ready room m links′ contexts′ latest′ earlier′
+ready-on {room} {n} {links} {contexts} ready covers cs {links′ = links′} {latest′ = latest′} {earlier′ = earlier′} e g ll cl tl el =
+    let ends = ended-is (offer covers room (held n links contexts) cs) (sym e ∙ g .lent .answer) in
+    record {
+      within = omega (arith, ends .1, offer-within covers room (held n links contexts) cs (omega (arith, held-length links contexts n, ready .within)));
+      small = ready .small;
+      links-fit = omega (arith, ready .links-fit);
+      contexts-fit = omega (arith, ready .contexts-fit);
+      latest-fit = omega (arith, ready .latest-fit);
+      earlier-fit = omega (arith, ready .earlier-fit);
+      chained = subst (λ (k : ℕ). Chained k links′ latest′ earlier′) (ends .1) (g .chained);
+    }
+
+-- it begins with the entries that are there
+pub going : {room n : ℕ} {links contexts latest earlier : List ℕ} → Ready room n links contexts latest earlier → (rest : List Period → Outcome Period)
+    → Going room (rest (held n links contexts)) rest links links contexts contexts latest latest earlier earlier n
+going {n = n} {links = links} {contexts = contexts} ready rest =
+    let same : Grows (ended (held n links contexts)) (Ended (length (held n links contexts))) links links contexts contexts _ _ = unchanged ready refl refl in
+    record {
+      ready = ready;
+      goal = refl;
+      links-left = same .lent .links-left;
+      contexts-left = same .lent .contexts-left;
+      links-long = refl;
+      contexts-long = refl;
+      latest-long = refl;
+      earlier-long = refl;
+    }
+
+module _ {room : ℕ} {o : Outcome Period} {rest : List Period → Outcome Period} {links₀ links contexts₀ contexts latest₀ latest earlier₀ earlier : List ℕ} {n : ℕ}
+    (at : Going room o rest links₀ links contexts₀ contexts latest₀ latest earlier₀ earlier n) where
+  -- ---- what a step leaves of no fewer entries is over what came at first
+
+  module _ (done : Outcome Period) (more : n ≤ length (entries done)) where
+    links-over : {links′ : List ℕ} → links′ ≡ over (linksOf (entries done)) links → links′ ≡ over (linksOf (entries done)) links₀
+    links-over e = e ∙ ap (over (linksOf (entries done))) (at .links-left) ∙ over-over (linksOf (held n links contexts)) (linksOf (entries done)) links₀ long
+      where
+        long : length (linksOf (held n links contexts)) ≤ length (linksOf (entries done))
+        long = omega (arith, held-length links contexts n, length-map (held n links contexts) (λ (d : Period). d .link), length-map (entries done) (λ (d : Period). d .link))
+
+    contexts-over : {contexts′ : List ℕ} → contexts′ ≡ over (contextsOf (entries done)) contexts → contexts′ ≡ over (contextsOf (entries done)) contexts₀
+    contexts-over e = e ∙ ap (over (contextsOf (entries done))) (at .contexts-left) ∙ over-over (contextsOf (held n links contexts)) (contextsOf (entries done)) contexts₀ long
+      where
+        long : length (contextsOf (held n links contexts)) ≤ length (contextsOf (entries done))
+        long = omega (arith, held-length links contexts n, contexts-length (held n links contexts), contexts-length (entries done))
+
+    -- the step that does the rest
+    pub going-last : {r q : Growth} {links′ contexts′ latest′ earlier′ : List ℕ} → rest (held n links contexts) ≡ done → r ≡ q
+        → Grows done r links links′ contexts contexts′ latest′ earlier′ → Grows o q links₀ links′ contexts₀ contexts′ latest′ earlier′
+    going-last {q = q} {links′} {contexts′} {latest′} {earlier′} is e g =
+        subst (λ (p : Outcome Period). Grows p q links₀ links′ contexts₀ contexts′ latest′ earlier′) (sym is ∙ at .goal)
+        (record {
+          lent = record { answer = sym e ∙ g .lent .answer; links-left = links-over (g .lent .links-left); contexts-left = contexts-over (g .lent .contexts-left) };
+          chained = g .chained;
+        })
+
+  -- nothing is left to do
+  pub going-end : rest (held n links contexts) ≡ ended (held n links contexts) → Grows o (Ended n) links₀ links contexts₀ contexts latest earlier
+  going-end is =
+      going-last (ended (held n links contexts)) (omega (arith, held-length links contexts n)) is (ap Ended (held-length links contexts n)) (unchanged (at .ready) refl refl)
+
+  -- ---- a step offers candidates, and the rest goes on with what they leave
+
+  more : (covers : Period → Period → Bool) (cs : List Period) → n ≤ length (entries (offer covers room (held n links contexts) cs))
+  more covers cs = omega (arith, held-length links contexts n, offer-longer covers room (held n links contexts) cs)
+
+  module _ (covers : Period → Period → Bool) (cs : List Period) (next : List Period → Outcome Period)
+      (split : rest (held n links contexts) ≡ onward (offer covers room (held n links contexts) cs) next) {links′ contexts′ latest′ earlier′ : List ℕ} where
+    -- where it lacked room, so does the whole
+    pub going-full : {r : Growth} → r ≡ Full → Grows (offer covers room (held n links contexts) cs) r links links′ contexts contexts′ latest′ earlier′
+        → Grows o Full links₀ links′ contexts₀ contexts′ latest′ earlier′
+    going-full e g =
+        let stop = full-is (offer covers room (held n links contexts) cs) (sym e ∙ g .lent .answer) in
+        going-last (offer covers room (held n links contexts) cs) (more covers cs) (split ∙ ap (λ (p : Outcome Period). onward p next) stop ∙ sym stop) e g
+
+    -- else the next step goes on
+    pub going-on : {r : Growth} {m : ℕ} → r ≡ Ended m → Grows (offer covers room (held n links contexts) cs) r links links′ contexts contexts′ latest′ earlier′
+        → length links′ ≡ length links → length contexts′ ≡ length contexts → length latest′ ≡ length latest → length earlier′ ≡ length earlier
+        → Going room o next links₀ links′ contexts₀ contexts′ latest₀ latest′ earlier₀ earlier′ m
+    going-on {m = m} e g ll cl tl el =
+        record {
+          ready = ready-on (at .ready) covers cs e g ll cl tl el;
+          goal = ap next holds ∙ sym (ap (λ (p : Outcome Period). onward p next) (ends .0)) ∙ sym split ∙ at .goal;
+          links-left = links-over done (more covers cs) (g .lent .links-left) ∙ ap (λ (t : List Period). over (linksOf t) links₀) (sym holds);
+          contexts-left = contexts-over done (more covers cs) (g .lent .contexts-left) ∙ ap (λ (t : List Period). over (contextsOf t) contexts₀) (sym holds);
+          links-long = ll ∙ at .links-long;
+          contexts-long = cl ∙ at .contexts-long;
+          latest-long = tl ∙ at .latest-long;
+          earlier-long = el ∙ at .earlier-long;
+        }
+      where
+        done : Outcome Period
+        done = offer covers room (held n links contexts) cs
+
+        ends : (done ≡ ended (entries done)) × (length (entries done) ≡ m)
+        ends = ended-is done (sym e ∙ g .lent .answer)
+
+        holds : held m links′ contexts′ ≡ entries done
+        holds =
+            ap (λ (k : ℕ). held k links′ contexts′) (sym (ends .1))
+            ∙ ap₂ (held (length (entries done))) (g .lent .links-left) (g .lent .contexts-left) ∙ held-over (entries done) links contexts
+
+-- what is left of an outcome, by another name of it
+pub leaves : {o p : Outcome Period} {r : Growth} {links₀ links contexts₀ contexts latest earlier : List ℕ} → o ≡ p
+    → Grows o r links₀ links contexts₀ contexts latest earlier → Leaves p r links₀ links contexts₀ contexts
+leaves {r = r} {links₀} {links} {contexts₀} {contexts} e g = subst (λ (p : Outcome Period). Leaves p r links₀ links contexts₀ contexts) e (g .lent)

@@ -1,0 +1,12 @@
+-- The laws of the period table: its entries as packed words, its lent tables and scratch, and its loops.
+pub mod AtWork
+pub mod Packed
+pub mod Lent
+pub mod Masks
+pub mod Chain
+pub mod Appended
+pub mod Offered
+pub mod Going
+pub mod Loop
+pub mod Candidates
+pub mod Taking

@@ -1,0 +1,46 @@
+-- The loop over the numbers below k that offers, for each in turn, its candidates. Assumes nothing.
+use mathlib.Core.Path.{_≡_, subst}
+use mathlib.Core.Bool.{Bool}
+use mathlib.Core.List.{List}
+use Prim.Native.Nat.{ℕ, _+_, _-_, _≤_, _<_}
+use native.Mathlib.Nat.{sub-zero}
+use lib.ListN.{length}
+use Rattle.growth.specs.declared.Growth.{Growth}
+use Rattle.growth.specs.declared.Growth.the-variants.{Ended, Full}
+use Rattle.growth.specs.Grow.{Outcome, offer}
+use Rattle.growth.specs.Steps.{gather}
+use Rattle.growth.proofs.Offering.{gather-on, gather-done}
+use Rattle.periods.specs.Periods.{Period}
+use Rattle.periods.specs.Lent.{held}
+use Rattle.periods.specs.Growing.{Ready, Grows}
+use Rattle.periods.proofs.Going.{Going, going, going-end, going-full, going-on}
+
+module _ (covers : Period → Period → Bool) (room : ℕ) (f : ℕ → List Period) (k : ℕ) where
+  -- what the numbers from i on give
+  unfoldable pub from : ℕ → List Period → Outcome Period
+  from i t = offer covers room t (gather i (k - i) f)
+
+  pub loop-start : {n : ℕ} {links contexts latest earlier : List ℕ} → Ready room n links contexts latest earlier
+      → Going room (offer covers room (held n links contexts) (gather 0 k f)) (from 0) links links contexts contexts latest latest earlier earlier n
+  unfolding from
+  loop-start {n} {links} {contexts} {latest} {earlier} ready =
+      subst (λ (j : ℕ). Going room (offer covers room (held n links contexts) (gather 0 j f)) (from 0) links links contexts contexts latest latest earlier earlier n) (sub-zero k)
+      (going ready (from 0))
+
+  module _ (i : ℕ) {o : Outcome Period} {links₀ links contexts₀ contexts latest₀ latest earlier₀ earlier : List ℕ} {n : ℕ}
+      (at : Going room o (from i) links₀ links contexts₀ contexts latest₀ latest earlier₀ earlier n) where
+    pub loop-end : k ≤ i → Grows o (Ended n) links₀ links contexts₀ contexts latest earlier
+    unfolding from
+    loop-end h = going-end at (gather-done covers room f k i (held n links contexts) h)
+
+    module _ (h : i < k) {links′ contexts′ latest′ earlier′ : List ℕ} where
+      pub loop-full : {r : Growth} → r ≡ Full → Grows (offer covers room (held n links contexts) (f i)) r links links′ contexts contexts′ latest′ earlier′
+          → Grows o Full links₀ links′ contexts₀ contexts′ latest′ earlier′
+      unfolding from
+      loop-full e g = going-full at covers (f i) (from (i + 1)) (gather-on covers room f k i (held n links contexts) h) e g
+
+      pub loop-on : {r : Growth} {m : ℕ} → r ≡ Ended m → Grows (offer covers room (held n links contexts) (f i)) r links links′ contexts contexts′ latest′ earlier′
+          → length links′ ≡ length links → length contexts′ ≡ length contexts → length latest′ ≡ length latest → length earlier′ ≡ length earlier
+          → Going room o (from (i + 1)) links₀ links′ contexts₀ contexts′ latest₀ latest′ earlier₀ earlier′ m
+      unfolding from
+      loop-on e g ll cl tl el = going-on at covers (f i) (from (i + 1)) (gather-on covers room f k i (held n links contexts) h) e g ll cl tl el

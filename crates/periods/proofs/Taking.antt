@@ -1,0 +1,99 @@
+-- The growth of the table: its first candidates, and then the entries taken in order. Assumes nothing.
+use mathlib.Core.Path.{_≡_, refl, ap, _∙_, subst}
+use mathlib.Core.Bool.{Bool}
+use mathlib.Core.Option.{Option, none, some}
+use mathlib.Core.List.{List}
+use Prim.Native.Nat.{ℕ, zero, suc, _+_, _-_, _≤_, _<_}
+use native.Mathlib.Nat.{sub-zero}
+use native.Mathlib.Omega.{arith}
+use lib.ListN.{length, getElem?}
+use Rattle.bits.specs.Bits.{values}
+use Rattle.growth.specs.declared.Growth.{Growth}
+use Rattle.growth.specs.declared.Growth.the-variants.{Ended, Full}
+use Rattle.growth.specs.Grow.{Outcome, ended, full, onward, entries, offer, grow, table}
+use Rattle.growth.proofs.Grown.{grow-end}
+use Rattle.growth.proofs.Offering.{offer-longer, grow-on}
+use Rattle.periods.specs.Periods.{Period}
+use Rattle.periods.specs.Lent.{entryIn, held}
+use Rattle.periods.specs.Growing.{Ready, Grows}
+use Rattle.periods.proofs.Lent.{held-length, held-at}
+use Rattle.periods.proofs.Going.{Going, going, going-end, going-last, going-full, going-on}
+
+-- what is there stays
+grow-longer : (covers : Period → Period → Bool) (next : ℕ → Period → List Period) (room f i : ℕ) (t : List Period) → length t ≤ length (entries (grow covers next room f i t))
+unfolding grow
+grow-longer covers next room zero i t = omega arith
+grow-longer covers next room (suc f) i t = at (getElem? t i) (grow-longer covers next room f (suc i))
+  where
+    go : (o : Outcome Period) → length t ≤ length (entries o) → ((s : List Period) → length s ≤ length (entries (grow covers next room f (suc i) s)))
+        → length t ≤ length (entries (onward o (grow covers next room f (suc i))))
+    go (ended s) l rest = omega (arith, rest s)
+    go (full s) l rest = l
+
+    at : (o : Option Period) → ((s : List Period) → length s ≤ length (entries (grow covers next room f (suc i) s)))
+        → length t ≤ length {A = Period} (entries (elim o [ none ↦ ended t | some e ↦ onward (offer covers room t (next i e)) (grow covers next room f (suc i)) ]))
+    at none rest = omega arith
+    at (some e) rest = go (offer covers room t (next i e)) (offer-longer covers room t (next i e)) rest
+
+module _ (covers : Period → Period → Bool) (next : ℕ → Period → List Period) (room : ℕ) where
+  -- what the entries from i on give
+  unfoldable pub taking : ℕ → List Period → Outcome Period
+  taking i t = grow covers next room (room - i) i t
+
+  pub take-start : {n : ℕ} {links contexts latest earlier : List ℕ} → Ready room n links contexts latest earlier
+      → Going room (grow covers next room room 0 (held n links contexts)) (taking 0) links links contexts contexts latest latest earlier earlier n
+  unfolding taking
+  take-start {n} {links} {contexts} {latest} {earlier} ready =
+      subst (λ (f : ℕ). Going room (grow covers next room f 0 (held n links contexts)) (taking 0) links links contexts contexts latest latest earlier earlier n) (sub-zero room)
+      (going ready (taking 0))
+
+  -- ---- an entry after the other
+
+  module _ (i : ℕ) {o : Outcome Period} {links₀ links contexts₀ contexts latest₀ latest earlier₀ earlier : List ℕ} {n : ℕ}
+      (at : Going room o (taking i) links₀ links contexts₀ contexts latest₀ latest earlier₀ earlier n) where
+    pub take-end : n ≤ i → Grows o (Ended n) links₀ links contexts₀ contexts latest earlier
+    unfolding taking
+    take-end h = going-end at (grow-end covers next room (room - i) (held n links contexts) (omega (arith, held-length links contexts n)))
+
+    module _ (h : i < n) where
+      split : taking i (held n links contexts) ≡ onward (offer covers room (held n links contexts) (next i (entryIn links contexts i))) (taking (i + 1))
+      unfolding taking
+      split =
+          grow-on covers room next i (held n links contexts) (entryIn links contexts i) (omega (arith, held-length links contexts n)) (omega (arith, held-length links contexts n, at .ready .within))
+          ∙ ap (λ (e : Period). onward (offer covers room (held n links contexts) (next i e)) (taking (i + 1))) (held-at links contexts n i (entryIn links contexts i) h)
+
+      module _ {links′ contexts′ latest′ earlier′ : List ℕ} where
+        pub take-full : {r : Growth} → r ≡ Full → Grows (offer covers room (held n links contexts) (next i (entryIn links contexts i))) r links links′ contexts contexts′ latest′ earlier′
+            → Grows o Full links₀ links′ contexts₀ contexts′ latest′ earlier′
+        take-full e g = going-full at covers (next i (entryIn links contexts i)) (taking (i + 1)) split e g
+
+        pub take-on : {r : Growth} {m : ℕ} → r ≡ Ended m → Grows (offer covers room (held n links contexts) (next i (entryIn links contexts i))) r links links′ contexts contexts′ latest′ earlier′
+            → length links′ ≡ length links → length contexts′ ≡ length contexts → length latest′ ≡ length latest → length earlier′ ≡ length earlier
+            → Going room o (taking (i + 1)) links₀ links′ contexts₀ contexts′ latest₀ latest′ earlier₀ earlier′ m
+        take-on e g ll cl tl el = going-on at covers (next i (entryIn links contexts i)) (taking (i + 1)) split e g ll cl tl el
+
+  -- ---- the first candidates before them
+
+  unfoldable whole : List Period → List Period → Outcome Period
+  whole first t = onward (offer covers room t first) (grow covers next room room 0)
+
+  module _ (first : List Period) {links contexts latest earlier : List ℕ} (ready : Ready room 0 links contexts latest earlier) {r : Growth} {links₁ contexts₁ latest₁ earlier₁ : List ℕ}
+      (g : Grows (offer covers room (held 0 links contexts) first) r links links₁ contexts contexts₁ latest₁ earlier₁) where
+    begun : Going room (table covers next room first) (whole first) links links contexts contexts latest latest earlier earlier 0
+    unfolding held values whole table
+    begun = going ready (whole first)
+
+    pub table-full : r ≡ Full → Grows (table covers next room first) Full links links₁ contexts contexts₁ latest₁ earlier₁
+    unfolding whole
+    table-full e = going-full begun covers first (grow covers next room room 0) refl e g
+
+    module _ {m : ℕ} (e : r ≡ Ended m) (ll : length links₁ ≡ length links) (cl : length contexts₁ ≡ length contexts) (tl : length latest₁ ≡ length latest) (el : length earlier₁ ≡ length earlier) where
+      onto : Going room (table covers next room first) (grow covers next room room 0) links links₁ contexts contexts₁ latest latest₁ earlier earlier₁ m
+      unfolding whole
+      onto = going-on begun covers first (grow covers next room room 0) refl e g ll cl tl el
+
+      pub table-done : {q : Growth} {links₂ contexts₂ latest₂ earlier₂ : List ℕ} → Grows (grow covers next room room 0 (held m links₁ contexts₁)) q links₁ links₂ contexts₁ contexts₂ latest₂ earlier₂
+          → Grows (table covers next room first) q links links₂ contexts contexts₂ latest₂ earlier₂
+      table-done h =
+          going-last onto (grow covers next room room 0 (held m links₁ contexts₁))
+          (omega (arith, held-length links₁ contexts₁ m, grow-longer covers next room room 0 (held m links₁ contexts₁))) refl refl h

@@ -1,0 +1,20 @@
+-- Covering by masks: what an entry must not have, found once for a candidate. Assumes nothing.
+use mathlib.Core.Bool.{Bool, _&&_}
+use Prim.Native.Nat.{ℕ, _-_, _^_}
+use lib.Bits.{bitAnd}
+use lib.Dec.{eqb}
+use Rattle.bits.specs.Fields.{linkState}
+use Rattle.acceptance.specs.Contexts.{Context}
+use Rattle.periods.specs.Periods.{Period}
+
+-- what c lacks of the pairs `rows`
+unfoldable pub lacking : ℕ → Context → Context
+lacking rows c = record { reach = bitAnd rows (2 ^ 64 - 1 - c .reach); through = bitAnd rows (2 ^ 64 - 1 - c .through) }
+
+-- c has nothing of d, in both numbers
+unfoldable pub apart : Context → Context → Bool
+apart c d = eqb (bitAnd (c .reach) (d .reach)) 0 && eqb (bitAnd (c .through) (d .through)) 0
+
+-- an entry covers a candidate at the same state of A if it has nothing that the candidate lacks of the rows
+unfoldable pub covers : ℕ → Period → Period → Bool
+covers rows old new = eqb (linkState (old .link)) (linkState (new .link)) && apart (old .context) (lacking rows (new .context))

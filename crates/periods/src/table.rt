@@ -1,0 +1,308 @@
+//! Candidates offered to the period table: one, those of a letter, those of an entry.
+ghost use mathlib.Core.Path.{_≡_};
+ghost use mathlib.Core.List.{[], _∷_};
+ghost use Prim.Native.Nat.{_+_, _*_, _<_, _≤_};
+ghost use lib.ListN.{length, getD};
+ghost use Rattle.bits.specs.Fields.{linkState};
+ghost use Rattle.growth.specs.Grow.{append, offer, grow};
+ghost use Rattle.growth.specs.Steps.{gather};
+ghost use Rattle.automata.specs.Loaded.{cell, autOf, ofPairs};
+ghost use Rattle.periods.specs.Periods.{Period};
+ghost use Rattle.periods.specs.Lent.{contextIn, entryIn, held};
+ghost use Rattle.periods.specs.Masks.{covers};
+ghost use Rattle.periods.specs.Growing.{Ready, Grows};
+ghost use Rattle.periods.specs.Candidates.{atState, atLetter, candidates, ofEntry};
+use crate::scan;
+use automata::Head;
+use automata::Pairs8;
+use automata::eight;
+use bits::entries;
+use bits::members;
+use growth::Growth;
+
+// A word that is made longer: the state of A that it leads to, its index in the table, and its context.
+pub struct Word {
+    pub state: u8,
+    pub parent: u16,
+    pub context: Pairs8,
+}
+
+// A word longer by one letter: the states that it leads to, the letter, the shorter word's index, and its context.
+struct Move {
+    successors: u16,
+    letter: u8,
+    parent: u16,
+    context: Pairs8,
+}
+
+// An entry more, if there is room: its link, its context's two numbers, and its place at the end of its state's chain.
+fn append(
+    links: &mut [u32],
+    contexts: &mut [u64],
+    latest: &mut [u16],
+    earlier: &mut [u16],
+    room: usize,
+    n: usize,
+    link: u32,
+    c: Pairs8,
+) -> Growth
+    requires { ⌜ Ready room n (now links) (now contexts) (now latest) (now earlier) ⌝ }
+    ensures { λ r. ⌜ Grows (append room (held n (now (links .entry)) (now (contexts .entry))) (record { link = link; context = ofPairs c })) r
+        (now (links .entry)) (now (links .exit)) (now (contexts .entry)) (now (contexts .exit)) (now (latest .exit)) (now (earlier .exit)) ⌝ }
+{
+    if n >= room {
+        return Growth::Full;
+    }
+    let state = entries::link_state(link) as usize;
+    links[n] = link;
+    contexts[2 * n] = c.reach;
+    contexts[2 * n + 1] = c.through;
+    earlier[n] = latest[state];
+    latest[state] = (n + 1) as u16;
+    Growth::Ended(n + 1)
+}
+
+// A candidate is dropped where it is covered, and else appended.
+fn offer(
+    links: &mut [u32],
+    contexts: &mut [u64],
+    latest: &mut [u16],
+    earlier: &mut [u16],
+    room: usize,
+    n: usize,
+    rows: u64,
+    link: u32,
+    c: Pairs8,
+) -> Growth
+    requires { ⌜ Ready room n (now links) (now contexts) (now latest) (now earlier) ⌝ }
+    ensures { λ r. ⌜ Grows (offer (covers rows) room (held n (now (links .entry)) (now (contexts .entry))) (record { link = link; context = ofPairs c } ∷ [])) r
+        (now (links .entry)) (now (links .exit)) (now (contexts .entry)) (now (contexts .exit)) (now (latest .exit)) (now (earlier .exit)) ⌝ }
+{
+    if scan::covered(links, contexts, latest, earlier, n, link, c, rows) {
+        return Growth::Ended(n);
+    }
+    append(links, contexts, latest, earlier, room, n, link, c)
+}
+
+// The candidate at the state q, if q is a successor.
+fn offer_at(
+    links: &mut [u32],
+    contexts: &mut [u64],
+    latest: &mut [u16],
+    earlier: &mut [u16],
+    room: usize,
+    n: usize,
+    rows: u64,
+    by: Move,
+    q: u8,
+) -> Growth
+    requires { ⌜ (by .letter < 16) × (q < 16) ⌝ }
+    requires { ⌜ Ready room n (now links) (now contexts) (now latest) (now earlier) ⌝ }
+    ensures { λ r. ⌜ Grows (offer (covers rows) room (held n (now (links .entry)) (now (contexts .entry))) (atState by q)) r
+        (now (links .entry)) (now (links .exit)) (now (contexts .entry)) (now (contexts .exit)) (now (latest .exit)) (now (earlier .exit)) ⌝ }
+{
+    if members::has16(by.successors, q as usize) {
+        let link = entries::period_link(q, by.letter, by.parent);
+        return offer(
+            links,
+            contexts,
+            latest,
+            earlier,
+            room,
+            n,
+            rows,
+            link,
+            by.context,
+        );
+    }
+    Growth::Ended(n)
+}
+
+// The candidates by one letter, successors rising; their context is the same.
+fn by_letter(
+    links: &mut [u32],
+    contexts: &mut [u64],
+    latest: &mut [u16],
+    earlier: &mut [u16],
+    room: usize,
+    n: usize,
+    rows: u64,
+    by: Move,
+) -> Growth
+    requires { ⌜ by .letter < 16 ⌝ }
+    requires { ⌜ Ready room n (now links) (now contexts) (now latest) (now earlier) ⌝ }
+    ensures { λ r. ⌜ Grows (offer (covers rows) room (held n (now (links .entry)) (now (contexts .entry))) (gather 0 16 (atState by))) r
+        (now (links .entry)) (now (links .exit)) (now (contexts .entry)) (now (contexts .exit)) (now (latest .exit)) (now (earlier .exit)) ⌝ }
+{
+    let mut count = n;
+    let mut q = 0u8;
+    while q < 16 {
+        let Growth::Ended(more) = offer_at(
+            links,
+            contexts,
+            latest,
+            earlier,
+            room,
+            count,
+            rows,
+            by,
+            q,
+        ) else {
+            return Growth::Full;
+        };
+        count = more;
+        q += 1;
+    }
+    Growth::Ended(count)
+}
+
+// A word by one letter: its context is made longer once for all successors, and not at all where there are none.
+fn step(model: &[[u16; 16]; 16], rule: &[[u8; 8]; 16], head: Head, word: Word, x: u8) -> Move
+    requires { ⌜ (word .state < 16) × (x < 16) ⌝ }
+    ensures { λ r. ⌜ r .letter ≡ x ⌝ }
+    ensures { λ r. ⌜ gather 0 16 (atState r) ≡ atLetter (now (model .entry)) (autOf (cell (now (rule .entry))) head) (word .state) (word .parent) (ofPairs (word .context)) x ⌝ }
+{
+    let state = word.state as usize;
+    let successors = model[x as usize][state];
+    let context = word.context;
+    if successors == 0 {
+        return Move {
+            successors,
+            letter: x,
+            parent: word.parent,
+            context,
+        };
+    }
+    Move {
+        successors,
+        letter: x,
+        parent: word.parent,
+        context: eight::longer(rule, head, context, x as usize),
+    }
+}
+
+// The candidates of a word, letters rising.
+pub fn expand(
+    links: &mut [u32],
+    contexts: &mut [u64],
+    latest: &mut [u16],
+    earlier: &mut [u16],
+    room: usize,
+    n: usize,
+    rows: u64,
+    model: &[[u16; 16]; 16],
+    rule: &[[u8; 8]; 16],
+    head: Head,
+    word: Word,
+) -> Growth
+    requires { ⌜ word .state < 16 ⌝ }
+    requires { ⌜ Ready room n (now links) (now contexts) (now latest) (now earlier) ⌝ }
+    ensures { λ r. ⌜ Grows (offer (covers rows) room (held n (now (links .entry)) (now (contexts .entry)))
+        (candidates (now (model .entry)) (autOf (cell (now (rule .entry))) head) (word .state) (word .parent) (ofPairs (word .context)))) r
+        (now (links .entry)) (now (links .exit)) (now (contexts .entry)) (now (contexts .exit)) (now (latest .exit)) (now (earlier .exit)) ⌝ }
+{
+    let mut count = n;
+    let mut x = 0u8;
+    while x < 16 {
+        let by = step(model, rule, head, word, x);
+        let Growth::Ended(more) = by_letter(links, contexts, latest, earlier, room, count, rows, by)
+        else {
+            return Growth::Full;
+        };
+        count = more;
+        x += 1;
+    }
+    Growth::Ended(count)
+}
+
+// The word of the entry at i.
+fn word_at(links: &[u32], contexts: &[u64], i: usize) -> Word
+    requires { ⌜ (i < 65535) × (i < length (now links)) × (2 * i + 1 < length (now contexts)) ⌝ }
+    ensures { λ r. ⌜ (r .state ≡ linkState (getD (now (links .entry)) i 0)) × (r .parent ≡ i) × (ofPairs (r .context) ≡ contextIn (now (contexts .entry)) i) ⌝ }
+{
+    Word {
+        state: entries::link_state(links[i]),
+        parent: i as u16,
+        context: Pairs8 {
+            reach: contexts[2 * i],
+            through: contexts[2 * i + 1],
+        },
+    }
+}
+
+// The candidates of the entry at i.
+fn take(
+    links: &mut [u32],
+    contexts: &mut [u64],
+    latest: &mut [u16],
+    earlier: &mut [u16],
+    room: usize,
+    n: usize,
+    rows: u64,
+    model: &[[u16; 16]; 16],
+    rule: &[[u8; 8]; 16],
+    head: Head,
+    i: usize,
+) -> Growth
+    requires { ⌜ i < n ⌝ }
+    requires { ⌜ Ready room n (now links) (now contexts) (now latest) (now earlier) ⌝ }
+    ensures { λ r. ⌜ Grows (offer (covers rows) room (held n (now (links .entry)) (now (contexts .entry)))
+        (ofEntry (now (model .entry)) (autOf (cell (now (rule .entry))) head) i (entryIn (now (links .entry)) (now (contexts .entry)) i))) r
+        (now (links .entry)) (now (links .exit)) (now (contexts .entry)) (now (contexts .exit)) (now (latest .exit)) (now (earlier .exit)) ⌝ }
+{
+    let word = word_at(links, contexts, i);
+    expand(
+        links,
+        contexts,
+        latest,
+        earlier,
+        room,
+        n,
+        rows,
+        model,
+        rule,
+        head,
+        word,
+    )
+}
+
+// The entries taken in order, those that are appended meanwhile too, until none is left. No more than `room` are ever there.
+pub fn take_all(
+    links: &mut [u32],
+    contexts: &mut [u64],
+    latest: &mut [u16],
+    earlier: &mut [u16],
+    room: usize,
+    n: usize,
+    rows: u64,
+    model: &[[u16; 16]; 16],
+    rule: &[[u8; 8]; 16],
+    head: Head,
+) -> Growth
+    requires { ⌜ Ready room n (now links) (now contexts) (now latest) (now earlier) ⌝ }
+    ensures { λ r. ⌜ Grows (grow (covers rows) (ofEntry (now (model .entry)) (autOf (cell (now (rule .entry))) head)) room room 0 (held n (now (links .entry)) (now (contexts .entry)))) r
+        (now (links .entry)) (now (links .exit)) (now (contexts .entry)) (now (contexts .exit)) (now (latest .exit)) (now (earlier .exit)) ⌝ }
+{
+    let mut count = n;
+    let mut i = 0;
+    while i < count {
+        let Growth::Ended(more) = take(
+            links,
+            contexts,
+            latest,
+            earlier,
+            room,
+            count,
+            rows,
+            model,
+            rule,
+            head,
+            i,
+        ) else {
+            return Growth::Full;
+        };
+        count = more;
+        i += 1;
+    }
+    Growth::Ended(count)
+}
