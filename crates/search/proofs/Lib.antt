@@ -1,0 +1,20 @@
+-- What is known of the walk, and the laws of its loops.
+pub mod AtWork
+pub mod Runs
+pub mod Reading
+pub mod Rounds
+pub mod Tests
+pub mod Verdicts
+pub mod Bounds
+pub mod Cut
+pub mod Room
+pub mod Chain
+pub mod Back
+pub mod Gathered
+pub mod Pairs
+pub mod Course
+pub mod Afresh
+pub mod Onward
+pub mod States
+pub mod Shown
+pub mod Telling
