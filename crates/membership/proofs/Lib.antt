@@ -1,0 +1,5 @@
+pub mod Lettered
+pub mod Walked
+pub mod Judged
+pub mod Right
+pub mod Samples

@@ -1,0 +1,58 @@
+-- `test` meets its contract. Assumes nothing.
+use mathlib.Core.Path.{sym, _∙_}
+use borrow.Author.Needs.{needs}
+use Rattle.membership.proofs.Judged.{bad-file, good-file, start-small}
+use Rattle.membership.proofs.Right.{test-right}
+use Rattle.membership.proofs.test.Statement.{statement}
+use Rattle.membership.proofs.test.Tie as tie
+
+read-requires : tie.Need-read-requires
+read-requires c κs = search needs
+
+enum-known-file : tie.Need-enum-known-file
+enum-known-file c = search needs
+
+enum-told : tie.Need-enum-told
+enum-told c = search needs
+
+number-of-requires : tie.Need-number-of-requires
+number-of-requires c κs = search needs
+
+place-of-requires : tie.Need-place-of-requires
+place-of-requires c κs = search needs
+
+refused-requires : tie.Need-refused-requires
+refused-requires c κs = search needs
+
+returns : tie.Need-returns
+returns c =
+    let read = c .before .before .before .before .before in
+    let args = read .before .before .before .before .before .args in
+    test-right (cc (bad-file (args .records .now) (args .stem .now) (args .period .now) (read .read .ensures .0) (c .before .before .before .enum-told .given .1)))
+
+test-words-requires : tie.Need-test-words-requires
+test-words-requires c κs =
+    let file = c .before .before in
+    let read = file .before .before in
+    start-small (read .before .before .before .before .before .args .records .now) (sym (read .read .ensures .0) ∙ file .file .given .1)
+
+returns-2 : tie.Need-returns-2
+returns-2 c =
+    let file = c .before .before .before in
+    let read = file .before .before in
+    let args = read .before .before .before .before .before .args in
+    test-right (cc (good-file (args .records .now) (args .stem .now) (args .period .now) (read .read .ensures .0) (read .read .ensures .1) (file .file .given .1)))
+
+pub test-spec : {M : Type 1} → statement M
+test-spec =
+    tie.close
+    (tie.spec
+    read-requires
+    enum-known-file
+    enum-told
+    number-of-requires
+    place-of-requires
+    refused-requires
+    returns
+    test-words-requires
+    returns-2)
