@@ -1,0 +1,118 @@
+-- The entry point from the judgement on: where it stops, and where it makes the walk of the two loaded automata, which is that of the files.
+-- Assumes nothing.
+use mathlib.Core.Bool.{Bool, true, false, cond}
+use mathlib.Core.List.{List}
+use mathlib.Core.Path.{_≡_, refl, sym, ap, _∙_}
+use Prim.Native.Nat.{ℕ}
+use Rattle.automata.specs.declared.Head.{Head}
+use Rattle.automata.specs.Loaded.{cell, autOf}
+use Rattle.records.specs.declared.Checked.{Checked}
+use Rattle.records.specs.declared.Checked.the-variants.{Good, Refused as Faulty}
+use Rattle.records.specs.Spelled.{spelled}
+use Rattle.records.specs.Faults.{judged}
+use Rattle.records.proofs.Loaded.{loaded-model, loaded-rule}
+use Rattle.membership.specs.declared.Refusal.{Refusal}
+use Rattle.search.specs.declared.Ending.{Ending}
+use Rattle.search.specs.Walk.{Walked, walk}
+use Rattle.search.specs.Ending.{Buffers, endingOf, leftBy}
+use Rattle.search.specs.Contract.{Prepared, Concluded}
+use Rattle.inclusion.specs.declared.Answer.{Answer}
+use Rattle.inclusion.specs.declared.Outset.{Outset}
+use Rattle.inclusion.specs.declared.Outset.the-variants.{Walks, Stops}
+use Rattle.inclusion.specs.Answers.{lentEnough, Start, walks, stops, startOf, answerTo, walkOf, decided, left}
+use Rattle.inclusion.specs.Judged.{outsetOf, Loads, stoppedBy}
+use Rattle.inclusion.specs.Decided.{Decided}
+use Rattle.inclusion.proofs.Started.{enough, Ready, ready, model-bounded, rule-small}
+use Rattle.inclusion.proofs.Judged.{goes}
+use Rattle.inclusion.proofs.Demands.{demands}
+
+-- how the definition starts
+abbrev startBy : Outset → Start
+startBy (Walks a b) = walks
+startBy (Stops r) = stops (r .number) (r .which) (r .place)
+
+-- the six buffers at once
+leaves : {r : Walked} {P : ℕ} {old new : Buffers} {e : Ending} → Concluded r P old new e → new ≡ leftBy r P old
+leaves c = λ i. record {
+  smallest = c .smallest-left i;
+  largest = c .largest-left i;
+  links = c .links-left i;
+  contexts = c .contexts-left i;
+  stem = c .stem-left i;
+  period = c .period-left i;
+}
+
+module _ (model rule : List ℕ) (S P : ℕ) (lent : Buffers) where
+  start-is : startOf model rule S P lent ≡ startBy (outsetOf (judged 16 model) (judged 8 rule) (lentEnough S P lent))
+  unfolding startOf outsetOf
+  start-is = at (judged 16 model) (judged 8 rule) (lentEnough S P lent)
+    where
+      at : (f g : Checked) (c : Bool)
+          → elim f [ Faulty r ↦ stops (r .number) 0 (r .place) | Good a ↦ elim g [ Faulty r ↦ stops (r .number) 1 (r .place) | Good b ↦ cond c walks (stops 7 0 0) ] ]
+          ≡ startBy (outsetOf f g c)
+      at (Faulty r) g c = refl
+      at (Good a) (Faulty r) c = refl
+      at (Good a) (Good b) true = refl
+      at (Good a) (Good b) false = refl
+
+  heads : {a b : Head} → outsetOf (judged 16 model) (judged 8 rule) (lentEnough S P lent) ≡ Walks a b → Ready model rule S P lent a b
+  heads e =
+      let (_, _, r) = ready (start-is ∙ ap startBy e) in
+      let same = goes (judged 8 rule) (lentEnough S P lent) (r .model-good) (r .rule-good) (r .lends) ∙ e in
+      record { model-good = cc; rule-good = cc; lends = r .lends }
+
+  -- what is known once both files are read
+  module _ {lends : Bool} {o : Outset} {model-table rule-table : List (List ℕ)} (lends-is : lends ≡ lentEnough S P lent) (loads : Loads model rule lends o model-table rule-table) where
+    judgement : o ≡ outsetOf (judged 16 model) (judged 8 rule) (lentEnough S P lent)
+    judgement = rw (loads .outset, lends-is)
+
+    starts : startOf model rule S P lent ≡ startBy o
+    starts = rw judgement start-is
+
+    -- ---- it stops
+
+    pub stopped-right : {refusal : Refusal} {r : Answer} → o ≡ Stops refusal → r ≡ stoppedBy o → Decided model rule S P lent r lent
+    unfolding decided left
+    stopped-right e answer = let s = starts ∙ ap startBy e in demands model rule S P lent (answer ∙ rw (e, s, decided)) (rw (s, left))
+
+    -- ---- it goes on
+
+    module _ {a b : Head} (e : o ≡ Walks a b) where
+      files : Ready model rule S P lent a b
+      files = heads (sym judgement ∙ e)
+
+      model-loaded : autOf (cell model-table) a ≡ spelled model
+      model-loaded = rw (loads .model-read) (loaded-model model (files .model-good))
+
+      rule-loaded : autOf (cell rule-table) b ≡ spelled rule
+      rule-loaded = rw (loads .rule-read) (loaded-rule rule (files .rule-good))
+
+      -- what the walk asks for
+      pub prepared : Prepared (autOf (cell model-table) a) (autOf (cell rule-table) b) S P lent
+      prepared =
+          let room = enough S P lent (files .lends) in
+          record {
+            some-stems = room .some-stem;
+            few-stems = room .few-stems;
+            some-periods = room .some-period;
+            few-periods = room .few-periods;
+            smallest-fits = room .smallest-long;
+            largest-fits = room .largest-long;
+            links-fit = room .links-long;
+            contexts-fit = room .contexts-long;
+            stem-fits = room .stem-long;
+            period-fits = room .period-long;
+            bounded = rw model-loaded (model-bounded files);
+            small = rw rule-loaded (rule-small files);
+          }
+
+      -- what it leaves is the answer's, and the buffers'
+      pub walked-right : {r : Answer} {ending : Ending} {new : Buffers} → Concluded (walk (autOf (cell model-table) a) (autOf (cell rule-table) b) S P) P lent new ending
+          → r ≡ answerTo S P ending → Decided model rule S P lent r new
+      unfolding decided left
+      walked-right {new = new} walked answer =
+          let s = starts ∙ ap startBy e in
+          let same : walk (autOf (cell model-table) a) (autOf (cell rule-table) b) S P ≡ walkOf model rule S P = rw (model-loaded, rule-loaded) in
+          demands model rule S P lent
+          (answer ∙ ap (answerTo S P) (walked .answer ∙ ap (λ (w : Walked). endingOf w) same) ∙ rw (s, decided))
+          (leaves walked ∙ ap (λ (w : Walked). leftBy w P lent) same ∙ rw (s, left))

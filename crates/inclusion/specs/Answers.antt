@@ -1,0 +1,78 @@
+-- What the tool answers, for any two files, any room and any six lent buffers (document 01, "Numbers the tool answers with"). Assumes nothing.
+use mathlib.Core.Bool.{Bool, _&&_, cond}
+use mathlib.Core.List.{List, [], _∷_}
+use Prim.Native.Nat.{ℕ, _*_}
+use lib.Dec.{ltb, leb}
+use lib.ListN.{length}
+use Rattle.records.specs.declared.Checked.the-variants.{Good, Refused as Faulty}
+use Rattle.records.specs.Spelled.{spelled}
+use Rattle.records.specs.Faults.{judged}
+use Rattle.search.specs.declared.Counts.{Counts}
+use Rattle.search.specs.declared.Ending.{Ending}
+use Rattle.search.specs.declared.Ending.the-variants.{Included as Passed, Shown, StemsFull, PeriodsFull}
+use Rattle.search.specs.Walk.{Walked, walk}
+use Rattle.search.specs.Ending.{Buffers, endingOf, leftBy}
+use Rattle.inclusion.specs.declared.Answer.{Answer}
+use Rattle.inclusion.specs.declared.Answer.the-variants.{Included, NotIncluded, Refused}
+
+-- S and P are in range, and the lent buffers are long enough for them
+unfoldable pub lentEnough : ℕ → ℕ → Buffers → Bool
+lentEnough S P lent =
+    (ltb 0 S && leb S 4096) && ((ltb 0 P && leb P 65535)
+    && ((leb S (length (lent .smallest)) && leb S (length (lent .largest)))
+    && ((leb P (length (lent .links)) && leb (2 * P) (length (lent .contexts)))
+    && (leb S (length (lent .stem)) && leb P (length (lent .period))))))
+
+abbrev pub none-counted : Counts
+none-counted = record { u = 0; w = 0; p = 0; t = 0 }
+
+abbrev pub refused : ℕ → ℕ → ℕ → Counts → Answer
+refused number which place counts = Refused (record { number = number; which = which; place = place }) counts
+
+-- whether the walk is made, or the refusal that comes before it: 1 to 6 of the model, 1 to 6 of the rule, 7
+pub data Start : Type 0 where
+  walks : Start
+  stops : ℕ → ℕ → ℕ → Start
+
+unfoldable pub startOf : List ℕ → List ℕ → ℕ → ℕ → Buffers → Start
+startOf model rule S P lent =
+    elim (judged 16 model) [
+      | Faulty r ↦ stops (r .number) 0 (r .place)
+      | Good a ↦
+          elim (judged 8 rule) [
+            | Faulty r ↦ stops (r .number) 1 (r .place)
+            | Good b ↦ cond (lentEnough S P lent) walks (stops 7 0 0)
+          ]
+    ]
+
+-- document 01's answer to how the walk ends: 0, or 8 and 9 with their places
+unfoldable pub answerTo : ℕ → ℕ → Ending → Answer
+answerTo S P (Passed counts) = Included counts
+answerTo S P (Shown counts lengths) = NotIncluded counts lengths
+answerTo S P (StemsFull k counts) = refused 8 k S counts
+answerTo S P (PeriodsFull counts) = refused 9 0 P counts
+
+-- the walk of the two automata that the files spell out
+abbrev pub walkOf : List ℕ → List ℕ → ℕ → ℕ → Walked
+walkOf model rule S P = walk (spelled model) (spelled rule) S P
+
+unfoldable pub decided : List ℕ → List ℕ → ℕ → ℕ → Buffers → Answer
+decided model rule S P lent =
+    elim (startOf model rule S P lent) [
+      | walks ↦ answerTo S P (endingOf (walkOf model rule S P))
+      | stops number which place ↦ refused number which place none-counted
+    ]
+
+-- what the six buffers hold at exit: as they came after a refusal from 1 to 7, and else what the walk leaves
+unfoldable pub left : List ℕ → List ℕ → ℕ → ℕ → Buffers → Buffers
+left model rule S P lent =
+    elim (startOf model rule S P lent) [
+      | walks ↦ leftBy (walkOf model rule S P) P lent
+      | stops number which place ↦ lent
+    ]
+
+-- document 01's nine numbers of an answer: number, which, place, u, w, p, t, and the lengths of the stem and of the period
+unfoldable pub numbersOf : Answer → List ℕ
+numbersOf (Included c) = 0 ∷ 0 ∷ 0 ∷ c .u ∷ c .w ∷ c .p ∷ c .t ∷ 0 ∷ 0 ∷ []
+numbersOf (NotIncluded c l) = 0 ∷ 0 ∷ 0 ∷ c .u ∷ c .w ∷ c .p ∷ c .t ∷ l .stem ∷ l .period ∷ []
+numbersOf (Refused r c) = r .number ∷ r .which ∷ r .place ∷ c .u ∷ c .w ∷ c .p ∷ c .t ∷ 0 ∷ 0 ∷ []

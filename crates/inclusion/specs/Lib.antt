@@ -1,0 +1,5 @@
+-- The definitions that the contracts cite.
+pub mod Answers
+pub mod Decided
+pub mod Judged
+pub mod Samples
