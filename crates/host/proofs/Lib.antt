@@ -1,0 +1,3 @@
+-- The laws of the definitions in `specs/`.
+pub mod Numbered
+pub mod Row
