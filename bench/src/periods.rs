@@ -1,0 +1,102 @@
+//! Period tables. Only the minimal contexts at each state of the model are looked at, those that cover often first.
+
+use crate::contexts::{rows, Context};
+use crate::rule::{Rule, Target};
+use outside::reference::records::Automaton;
+
+/// A one-letter period has this parent.
+pub const NO_PARENT: usize = 65_535;
+
+/// The lent tables that a period table is grown in.
+pub struct Room<'a> {
+    pub links: &'a mut [u32],
+    pub contexts: &'a mut [u64],
+    pub room: usize,
+}
+
+/// By state of the model, the contexts of the table on the rows that count, less those that a later one is inside of.
+#[derive(Default)]
+pub struct Minimal {
+    at: [Vec<Context>; 16],
+}
+
+impl Minimal {
+    fn clear(&mut self) {
+        self.at.iter_mut().for_each(Vec::clear);
+    }
+
+    #[inline]
+    fn covers(&mut self, state: usize, candidate: Context, rows: u64) -> bool {
+        let (reach, through) = (rows & !candidate.reach, rows & !candidate.through);
+        let chain = &mut self.at[state];
+        let Some(found) = chain.iter().position(|entry| entry.reach & reach | entry.through & through == 0) else {
+            return false;
+        };
+        // Nearer to the front each time, so that the ones that cover often are met early.
+        chain.swap(found, found / 2);
+        true
+    }
+
+    fn add(&mut self, state: usize, entry: Context, rows: u64) {
+        let entry = Context { reach: entry.reach & rows, through: entry.through & rows };
+        let chain = &mut self.at[state];
+        let inside = |old: &Context| entry.reach & !old.reach | entry.through & !old.through == 0;
+        if chain.iter().any(inside) {
+            chain.retain(|old| !inside(old));
+        }
+        chain.push(entry);
+    }
+}
+
+/// Grows the period table of (s, w) into the lent tables. Its length and whether one entry too many was needed.
+pub fn grow(
+    model: &Automaton,
+    rule: &Rule,
+    s: usize,
+    target: Target,
+    minimal: &mut Minimal,
+    lent: &mut Room,
+    candidates: &mut u64,
+) -> (usize, bool) {
+    minimal.clear();
+    let rows = rows(target);
+    let mut length = 0;
+    let mut taken = NO_PARENT;
+    loop {
+        let (from, context) = if taken == NO_PARENT {
+            (s, Context::empty(rule))
+        } else {
+            (
+                (lent.links[taken] & 15) as usize,
+                Context { reach: lent.contexts[2 * taken], through: lent.contexts[2 * taken + 1] },
+            )
+        };
+        for letter in 0..16 {
+            let mut successors = model.steps[letter][from];
+            if successors == 0 {
+                continue;
+            }
+            let context = context.longer(rule.moved(letter), rule.accepting);
+            while successors != 0 {
+                let state = successors.trailing_zeros() as usize;
+                successors &= successors - 1;
+                *candidates += 1;
+                if minimal.covers(state, context, rows) {
+                    continue;
+                }
+                if length == lent.room {
+                    return (length, true);
+                }
+                minimal.add(state, context, rows);
+                lent.links[length] = (state | letter << 4 | taken << 16) as u32;
+                lent.contexts[2 * length] = context.reach;
+                lent.contexts[2 * length + 1] = context.through;
+                length += 1;
+            }
+        }
+        taken = if taken == NO_PARENT { 0 } else { taken + 1 };
+        if taken == length {
+            return (length, false);
+        }
+    }
+}
