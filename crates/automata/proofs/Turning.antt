@@ -12,13 +12,13 @@ use mir.Val.{boolByte}
 use Rattle.bits.specs.Bits.{bit, weight, setOf, any}
 use Rattle.bits.specs.Sets.{meets, movesTo, moved, byRows}
 use Rattle.bits.specs.Pairs.{pair, row, pairs}
+use Rattle.bits.proofs.Sets.{meets-test}
 use Rattle.bits.proofs.Quantifiers.{any-cong}
 use Rattle.bits.proofs.Bits.{setOf-cong}
 use Rattle.bits.proofs.Moved.{moved-lt, bit-moved}
 use Rattle.bits.proofs.Pairs.{row-lt, bit-row, row-pairs}
 use Rattle.automata.specs.Repeated.{turning, leadingInto}
 use Rattle.automata.proofs.Members.{weighed-lt, as-weight, and-shifted-one, gathered-more}
-use Rattle.automata.proofs.Meets.{meets-and}
 
 -- ---- the states that c pairs with themselves
 
@@ -60,7 +60,7 @@ module _ (n paths : ℕ) where
       gathered-more (leads x) q (boolByte (not (eqb (bitAnd y x) 0)) * 2 ^ q % 2 ^ n)
       (ap (λ (b : ℕ). b * 2 ^ q % 2 ^ n) (as-weight (not (eqb (bitAnd y x) 0)))
       ∙ mod-eq-of-lt (weighed-lt (not (eqb (bitAnd y x) 0)) (pow-lt h))
-      ∙ ap (λ (b : Bool). weight b * 2 ^ q) (ap (λ (z : ℕ). not (eqb (bitAnd z x) 0)) e ∙ meets-and n (row n paths q) x (row-lt n paths q)))
+      ∙ ap (λ (b : Bool). weight b * 2 ^ q) (ap (λ (z : ℕ). not (eqb (bitAnd z x) 0)) e ∙ meets-test n (row n paths q) x (row-lt n paths q)))
 
   pub leading-all : (x : ℕ) → setOf (leads x) n ≡ leadingInto n paths x
   unfolding leads leadingInto
