@@ -15,18 +15,17 @@ use Rattle.acceptance.specs.Contexts.{Context, target, contextOf}
 use Rattle.automata.specs.Loaded.{cell, autOf}
 use Rattle.automata.specs.Repeated.{repeated}
 use Rattle.automata.specs.declared.Head.{Head}
-use Rattle.records.specs.declared.Refusal.{Refusal as Fault}
 use Rattle.records.specs.declared.Checked.{Checked}
 use Rattle.records.specs.declared.Checked.the-variants.{Good as Fine, Refused as Faulty}
 use Rattle.records.specs.Spelled.{spelled, tableOf}
-use Rattle.records.specs.Faults.{goodRecords, judged, numberOf, placeOf as faultPlace}
+use Rattle.records.specs.Faults.{goodRecords, judged, refusal, refusalOf}
 use Rattle.records.proofs.Limits.{spelled-small}
 use Rattle.records.proofs.Loaded.{loaded-model}
 use Rattle.membership.specs.declared.Letters.{Letters}
 use Rattle.membership.specs.declared.Letters.the-variants.{Good, Bad}
 use Rattle.membership.specs.declared.Tested.{Tested}
-use Rattle.membership.specs.declared.Tested.the-variants.{Accepted, Rejected}
-use Rattle.membership.specs.Test.{goodLetters, lettered, refusal, verdict, testedOn, tested}
+use Rattle.membership.specs.declared.Tested.the-variants.{Accepted, Rejected, Refused}
+use Rattle.membership.specs.Test.{goodLetters, lettered, verdict, testedOn, tested}
 use Rattle.membership.specs.Checks.{checked, placeOf}
 
 -- ---- a word's check
@@ -50,17 +49,17 @@ check-bad w {place} e = at (lettered w) refl
 -- ---- the words, l and m being their checks
 
 module _ (A : Aut) (u v : Word) where
-  pub empty-period : length v ≡ 0 → refusal 10 0 0 ≡ testedOn A u v
+  pub empty-period : length v ≡ 0 → Refused (refusal 10 0 0) ≡ testedOn A u v
   unfolding testedOn
   empty-period e = rw (eq-eqb (length v) 0 e)
 
   module _ (some : length v ≡ 0 → ⊥) {l : Letters} (stem : l ≡ checked u) where
-    pub bad-stem : {place : ℕ} → l ≡ Bad place → refusal 11 0 (placeOf l) ≡ testedOn A u v
+    pub bad-stem : {place : ℕ} → l ≡ Bad place → Refused (refusal 11 0 (placeOf l)) ≡ testedOn A u v
     unfolding testedOn
     bad-stem e = let (b, p) = check-bad u (sym stem ∙ e) in rw (ne-eqb (length v) 0 some, b, e, p)
 
     module _ (good : l ≡ Good) {m : Letters} (period : m ≡ checked v) where
-      pub bad-period : {place : ℕ} → m ≡ Bad place → refusal 11 1 (placeOf m) ≡ testedOn A u v
+      pub bad-period : {place : ℕ} → m ≡ Bad place → Refused (refusal 11 1 (placeOf m)) ≡ testedOn A u v
       unfolding testedOn
       bad-period e = let (b, p) = check-bad v (sym period ∙ e) in rw (ne-eqb (length v) 0 some, check-good u (sym stem ∙ good), b, e, p)
 
@@ -87,11 +86,11 @@ module _ (A : Aut) (u v : Word) where
 module _ (records : List ℕ) (u v : Word) where
   -- what is answered, by what reading the file answers
   unfoldable pub byFile : Checked → Tested
-  byFile f = elim f [ Fine head ↦ testedOn (spelled records) u v | Faulty r ↦ refusal (r .number) 0 (r .place) ]
+  byFile f = elim f [ Fine head ↦ testedOn (spelled records) u v | Faulty number place ↦ Refused (refusalOf 0 (Faulty number place)) ]
 
-  pub bad-file : {f : Checked} {r : Fault} → f ≡ judged 16 records → f ≡ Faulty r → refusal (numberOf f) 0 (faultPlace f) ≡ tested records u v
+  pub bad-file : {f : Checked} {number place : ℕ} → f ≡ judged 16 records → f ≡ Faulty number place → Refused (refusalOf 0 f) ≡ tested records u v
   unfolding tested byFile
-  bad-file e g = ap (λ (f : Checked). refusal (numberOf f) 0 (faultPlace f)) g ∙ ap byFile (sym g ∙ e)
+  bad-file e g = ap (λ (f : Checked). Refused (refusalOf 0 f)) g ∙ ap byFile (sym g ∙ e)
 
   -- the loaded automaton is the one that the records spell out
   pub good-file : {f : Checked} {head : Head} {table : List (List ℕ)} → f ≡ judged 16 records → table ≡ tableOf records (goodRecords 16 records) → f ≡ Fine head

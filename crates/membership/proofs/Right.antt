@@ -17,15 +17,15 @@ use Rattle.acceptance.proofs.Words.{describes-word}
 use Rattle.automata.specs.declared.Head.{Head}
 use Rattle.automata.specs.Repeated.{repeated}
 use Rattle.automata.proofs.Accepting.{accepted}
+use Rattle.records.specs.declared.Refusal.{Refusal}
 use Rattle.records.specs.declared.Checked.{Checked}
 use Rattle.records.specs.declared.Checked.the-variants.{Good, Refused as Faulty}
 use Rattle.records.specs.Spelled.{spelled}
-use Rattle.records.specs.Faults.{judged}
+use Rattle.records.specs.Faults.{judged, refusal}
 use Rattle.records.proofs.Limits.{spelled-small}
-use Rattle.membership.specs.declared.Refusal.{Refusal}
 use Rattle.membership.specs.declared.Tested.{Tested}
 use Rattle.membership.specs.declared.Tested.the-variants as says
-use Rattle.membership.specs.Test.{goodLetters, lettered, refusal, verdict, testedOn, tested, hostNumber}
+use Rattle.membership.specs.Test.{goodLetters, lettered, verdict, testedOn, tested, hostNumber}
 use Rattle.membership.specs.Meaning.{Sound, TestRight}
 use Rattle.membership.proofs.Lettered.{all-lettered, lettered-all}
 use Rattle.membership.proofs.Judged.{byFile}
@@ -54,7 +54,7 @@ module _ {records : List ℕ} {u v : Word} where
   words-outcome head e = at (eqb (length v) 0) refl (lettered u) refl (lettered v) refl
     where
       at : (a : Bool) → eqb (length v) 0 ≡ a → (b : Bool) → lettered u ≡ b → (c : Bool) → lettered v ≡ c → Outcome records u v
-          (cond a (refusal 10 0 0) (cond b (cond c (verdict (spelled records) u v) (refusal 11 1 (goodLetters v))) (refusal 11 0 (goodLetters u))))
+          (cond a (says.Refused (refusal 10 0 0)) (cond b (cond c (verdict (spelled records) u v) (says.Refused (refusal 11 1 (goodLetters v)))) (says.Refused (refusal 11 0 (goodLetters u)))))
       at true f b g c h = refused (λ s. let l = s .some-letter in omega (arith, eqb-true (length v) 0 f))
       at false f true g true h = decided (record {
         head = head;
@@ -72,7 +72,7 @@ module _ {records : List ℕ} {u v : Word} where
     where
       at : (c : Checked) → judged 16 records ≡ c → Outcome records u v (byFile records u v c)
       at (Good head) e = words-outcome head e
-      at (Faulty r) e = refused (λ s. let z : _≡_ {A = ℕ} 0 1 = cc in omega arith)
+      at (Faulty number place) e = refused (λ s. let z : _≡_ {A = ℕ} 0 1 = cc in omega arith)
 
 right : {records : List ℕ} {u v : Word} {r : Tested} → r ≡ tested records u v → Outcome records u v r → TestRight records u v r
 right {records} {u} {v} e (decided s) =

@@ -9,9 +9,9 @@ use Rattle.bits.specs.Pairs.{pair, row, pairs}
 use Rattle.acceptance.specs.Contexts.{idle, movedBy, passesBy, throughBy, movedAll, target, longer, longerAll, contextOf}
 use Rattle.automata.specs.Repeated.{ledOn, via, pathsOver, closure, turning, leadingInto, repeatedBy, repeated}
 use Rattle.records.specs.Spelled.{isRecord, among, started, startIn, named, statesIn, spelled, acceptingIn}
-use Rattle.records.specs.Faults.{again, fault, firstFault, goodRecords, headOf, judged}
-use Rattle.membership.specs.declared.Tested.the-variants.{Accepted, Rejected}
-use Rattle.membership.specs.Test.{goodLetters, refusal, verdict, testedOn, tested}
+use Rattle.records.specs.Faults.{again, fault, firstFault, goodRecords, headOf, judged, refusal}
+use Rattle.membership.specs.declared.Tested.the-variants.{Accepted, Rejected, Refused}
+use Rattle.membership.specs.Test.{goodLetters, verdict, testedOn, tested}
 
 -- I 0, F 1, T 0 0 1, T 1 0 0
 abbrev pub m8 : List ℕ
@@ -28,6 +28,6 @@ unfolding digit pack bit weight setOf any union meets movesTo moved pair row pai
 samples = (refl, refl)
 
 -- 10 comes before 11, 11 in the stem before 11 in the period; its place is the first bad letter's
-pub refusals : (tested m8 (16 ∷ []) [] ≡ refusal 10 0 0) × (tested m8 (0 ∷ 16 ∷ []) (16 ∷ []) ≡ refusal 11 0 1) × (tested m8 [] (0 ∷ 16 ∷ []) ≡ refusal 11 1 1)
+pub refusals : (tested m8 (16 ∷ []) [] ≡ Refused (refusal 10 0 0)) × (tested m8 (0 ∷ 16 ∷ []) (16 ∷ []) ≡ Refused (refusal 11 0 1)) × (tested m8 [] (0 ∷ 16 ∷ []) ≡ Refused (refusal 11 1 1))
 unfolding any isRecord among started startIn again fault firstFault goodRecords headOf judged goodLetters testedOn tested
 refusals = (refl, refl, refl)

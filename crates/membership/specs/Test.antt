@@ -10,7 +10,7 @@ use Rattle.acceptance.specs.Contexts.{target, contextOf}
 use Rattle.automata.specs.Repeated.{repeated}
 use Rattle.records.specs.declared.Checked.the-variants.{Good, Refused as Faulty}
 use Rattle.records.specs.Spelled.{spelled}
-use Rattle.records.specs.Faults.{judged}
+use Rattle.records.specs.Faults.{judged, refusal, refusalOf}
 use Rattle.membership.specs.declared.Tested.{Tested}
 use Rattle.membership.specs.declared.Tested.the-variants.{Accepted, Rejected, Refused}
 
@@ -23,9 +23,6 @@ goodLetters (x ∷ w) = cond (ltb x 16) (suc (goodLetters w)) 0
 abbrev pub lettered : Word → Bool
 lettered w = eqb (goodLetters w) (length w)
 
-abbrev pub refusal : ℕ → ℕ → ℕ → Tested
-refusal number which place = Refused (record { number = number; which = which; place = place })
-
 -- the verdict for an automaton of up to sixteen states: copies of v lead on for ever, through acceptance again and again, from a state that u leads to
 unfoldable pub verdict : Aut → Word → Word → Tested
 verdict A u v = cond (meets 16 (target 16 A u) (repeated 16 (contextOf 16 A v))) Accepted Rejected
@@ -33,11 +30,11 @@ verdict A u v = cond (meets 16 (target 16 A u) (repeated 16 (contextOf 16 A v)))
 -- the words are judged once the records are good
 unfoldable pub testedOn : Aut → Word → Word → Tested
 testedOn A u v =
-    cond (eqb (length v) 0) (refusal 10 0 0)
-    (cond (lettered u) (cond (lettered v) (verdict A u v) (refusal 11 1 (goodLetters v))) (refusal 11 0 (goodLetters u)))
+    cond (eqb (length v) 0) (Refused (refusal 10 0 0))
+    (cond (lettered u) (cond (lettered v) (verdict A u v) (Refused (refusal 11 1 (goodLetters v)))) (Refused (refusal 11 0 (goodLetters u))))
 
 unfoldable pub tested : List ℕ → Word → Word → Tested
-tested records u v = elim (judged 16 records) [ Good head ↦ testedOn (spelled records) u v | Faulty r ↦ refusal (r .number) 0 (r .place) ]
+tested records u v = elim (judged 16 records) [ Good head ↦ testedOn (spelled records) u v | Faulty number place ↦ Refused (refusalOf 0 (Faulty number place)) ]
 
 -- document 01's number of an answer of the test, as the C host gets it
 abbrev pub hostNumber : Tested → ℕ

@@ -5,7 +5,9 @@ ghost use Prim.Native.Nat.{_<_};
 ghost use lib.ListN.{length, getD};
 ghost use Rattle.acceptance.specs.Contexts.{target, contextOf};
 ghost use Rattle.automata.specs.Loaded.{cell, autOf, ofRows};
-ghost use Rattle.membership.specs.Test.{goodLetters, lettered, refusal, verdict, testedOn};
+ghost use Rattle.records.specs.Faults.{refusal};
+ghost use Rattle.membership.specs.declared.Tested.the-variants.{Refused};
+ghost use Rattle.membership.specs.Test.{goodLetters, lettered, verdict, testedOn};
 ghost use Rattle.membership.specs.Checks.{checked, placeOf};
 ghost use Rattle.membership.specs.Meaning.{TestRight};
 use automata::Head;
@@ -13,13 +15,7 @@ use automata::Rows16;
 use automata::sixteen;
 use bits::members;
 use records::Checked;
-
-// Document 01's number of a refusal, which file or word it is about, and its place there.
-pub struct Refusal {
-    pub number: u8,
-    pub which: u8,
-    pub place: usize,
-}
+use records::Refusal;
 
 // What the test answers.
 pub enum Tested {
@@ -108,7 +104,7 @@ fn decide(table: &[[u16; 16]; 16], head: Head, stem: &[u8], period: &[u8]) -> Te
 
 // The refusal of that number, about that file or word, at that place.
 fn refused(number: u8, which: u8, place: usize) -> Tested
-    ensures { λ r. ⌜ r ≡ refusal number which place ⌝ }
+    ensures { λ r. ⌜ r ≡ Refused (refusal number which place) ⌝ }
 {
     Tested::Refused(Refusal {
         number,
@@ -129,7 +125,7 @@ fn place_of(letters: Letters) -> usize
 
 // Refusal 11: the first bad letter of the stem, 0, or the period, 1.
 fn bad_letter(which: u8, letters: Letters) -> Tested
-    ensures { λ r. ⌜ r ≡ refusal 11 which (placeOf letters) ⌝ }
+    ensures { λ r. ⌜ r ≡ Refused (refusal 11 which (placeOf letters)) ⌝ }
 {
     refused(11, which, place_of(letters))
 }
@@ -160,7 +156,7 @@ pub fn test(records: &[u8], stem: &[u8], period: &[u8]) -> Tested
     let mut table = [[0u16; 16]; 16];
     let file = records::read(records, 16, &mut table);
     let Checked::Good(head) = file else {
-        return refused(records::number_of(file), 0, records::place_of(file));
+        return Tested::Refused(records::refusal_of(0, file));
     };
     test_words(&table, head, stem, period)
 }

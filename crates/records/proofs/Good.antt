@@ -11,9 +11,9 @@ use lib.ListN.{length}
 use borrow.Author.Tests.{eqb-true, ltb-false}
 use Rattle.automata.specs.declared.Head.{Head}
 use Rattle.records.specs.declared.Checked.{Checked}
-use Rattle.records.specs.declared.Checked.the-variants.{Good}
+use Rattle.records.specs.declared.Checked.the-variants.{Good, Refused}
 use Rattle.records.specs.Spelled.{count, started}
-use Rattle.records.specs.Faults.{fault, firstFault, goodRecords, refused, headOf, judged}
+use Rattle.records.specs.Faults.{fault, firstFault, goodRecords, headOf, judged}
 use Rattle.records.proofs.Clean.{Clean}
 
 module _ (states : ℕ) (s : List ℕ) where
@@ -41,11 +41,11 @@ module _ (states : ℕ) (s : List ℕ) where
 
   -- ---- what Good says
 
-  unless : {h : Head} (t : Bool) (number place : ℕ) {x : Checked} → cond t x (refused number place) ≡ Good h → (t ≡ true) × (x ≡ Good h)
+  unless : {h : Head} (t : Bool) (number place : ℕ) {x : Checked} → cond t x (Refused number place) ≡ Good h → (t ≡ true) × (x ≡ Good h)
   unless true k p e = (refl, e)
   unless false k p e = let z : _≡_ {A = ℕ} 0 1 = cc in absurd (omega arith)
 
-  unless-not : {h : Head} (t : Bool) (number place : ℕ) {x : Checked} → cond t (refused number place) x ≡ Good h → (t ≡ false) × (x ≡ Good h)
+  unless-not : {h : Head} (t : Bool) (number place : ℕ) {x : Checked} → cond t (Refused number place) x ≡ Good h → (t ≡ false) × (x ≡ Good h)
   unless-not true k p e = let z : _≡_ {A = ℕ} 0 1 = cc in absurd (omega arith)
   unless-not false k p e = (refl, e)
 

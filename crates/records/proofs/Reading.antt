@@ -11,12 +11,12 @@ use borrow.Author.Tests.{eqb-true, eqb-false, eq-eqb, ne-eqb, lt-ltb, le-ltb}
 use Rattle.bits.specs.Bits.{pack, weight, setOf, any}
 use Rattle.automata.specs.declared.Head.{Head}
 use Rattle.records.specs.declared.Checked.{Checked}
-use Rattle.records.specs.declared.Checked.the-variants.{Good}
+use Rattle.records.specs.declared.Checked.the-variants.{Good, Refused}
 use Rattle.records.specs.declared.Record.{Record}
 use Rattle.records.specs.declared.Step.{Step}
 use Rattle.records.specs.declared.Step.the-variants.{On, Stop}
 use Rattle.records.specs.Spelled.{count, among, acceptingIn, statesIn, started, startIn, tableOf}
-use Rattle.records.specs.Faults.{fault, firstFault, goodRecords, refused, headOf, judged}
+use Rattle.records.specs.Faults.{fault, firstFault, goodRecords, headOf, judged}
 use Rattle.records.specs.Steps.{recordAt, stepBy, tableBy, stopOf}
 use Rattle.records.proofs.Clean.{Clean, clean-none, clean-more, first-here, first-later, start-below}
 use Rattle.records.proofs.Turn.{headIn, start-test, turn-step, turn-table}
@@ -45,7 +45,7 @@ module _ (states : ℕ) (s : List ℕ) where
         head-is = refl;
       }
 
-  pub odd : {table : List (List ℕ)} → table ≡ tableOf [] 0 → (length s % 4 ≡ 0 → ⊥) → Answered (refused 1 (4 * count s)) table
+  pub odd : {table : List (List ℕ)} → table ≡ tableOf [] 0 → (length s % 4 ≡ 0 → ⊥) → Answered (Refused 1 (4 * count s)) table
   unfolding judged goodRecords tableOf among any
   odd e ne = simp (ne-eqb (length s % 4) 0 ne) (refl, e)
 
@@ -55,11 +55,11 @@ module _ (states : ℕ) (s : List ℕ) where
     first-is n e = simp (eq-eqb (length s % 4) 0 even) e
 
     judged-is : (n : ℕ) → goodRecords states s ≡ n
-        → judged states s ≡ cond (ltb n (count s)) (refused (fault states s n) (4 * n)) (cond (started s (count s)) (Good (headOf s)) (refused 6 (length s)))
+        → judged states s ≡ cond (ltb n (count s)) (Refused (fault states s n) (4 * n)) (cond (started s (count s)) (Good (headOf s)) (Refused 6 (length s)))
     unfolding judged
     judged-is n e = simp (eq-eqb (length s % 4) 0 even, e)
 
-    at-fault : (i : ℕ) → firstFault states s (count s) 0 ≡ i → i < count s → Answered (refused (fault states s i) (4 * i)) (tableOf s i)
+    at-fault : (i : ℕ) → firstFault states s (count s) 0 ≡ i → i < count s → Answered (Refused (fault states s i) (4 * i)) (tableOf s i)
     at-fault i e h = let g = first-is i e in (sym (judged-is i g ∙ simp (lt-ltb i (count s) h)), ap (tableOf s) (sym g))
 
     -- ---- no record is left
@@ -68,7 +68,7 @@ module _ (states : ℕ) (s : List ℕ) where
       place : i ≡ count s
       place = let h = all .within in omega arith
 
-      at-end : Answered (cond (started s (count s)) (Good (headOf s)) (refused 6 (length s))) table
+      at-end : Answered (cond (started s (count s)) (Good (headOf s)) (Refused 6 (length s))) table
       unfolding firstFault
       at-end =
           let none : count s - i ≡ 0 = omega arith in
@@ -81,7 +81,7 @@ module _ (states : ℕ) (s : List ℕ) where
           ∙ start-test states s (count s) small
           (λ e. let h = start-below states s (count s) (subst (Clean states s) place (all .clean)) e in omega arith)
 
-      pub no-start : head .start ≡ 16 → Answered (refused 6 (length s)) table
+      pub no-start : head .start ≡ 16 → Answered (Refused 6 (length s)) table
       no-start e = rw (sym test ∙ ap not (eq-eqb (head .start) 16 e)) at at-end
 
       pub good-file : (head .start ≡ 16 → ⊥) → Answered (Good head) table
@@ -131,13 +131,13 @@ module _ (states : ℕ) (s : List ℕ) where
             }
         at false f g h = let never : _≡_ {A = ℕ} 0 1 = cc in absurd (omega arith)
 
-    pub stopped : length s % 4 ≡ 0 → {k m : ℕ} → step ≡ Stop m → k ≡ stopOf step → Answered (refused k (4 * i)) table
+    pub stopped : length s % 4 ≡ 0 → {k m : ℕ} → step ≡ Stop m → k ≡ stopOf step → Answered (Refused k (4 * i)) table
     stopped even {k} e number = at (eqb (fault states s i) 0) refl (turn .step-is) (turn .table-is)
       where
         at : (t : Bool) → eqb (fault states s i) 0 ≡ t → step ≡ cond t (On (headIn s (suc i))) (Stop (fault states s i))
-            → table ≡ cond t (tableOf s (suc i)) (tableOf s i) → Answered (refused k (4 * i)) table
+            → table ≡ cond t (tableOf s (suc i)) (tableOf s i) → Answered (Refused k (4 * i)) table
         at true f g h = let never : _≡_ {A = ℕ} 0 1 = cc in absurd (omega arith)
         at false f g h =
             let first = sym (turn .rest) ∙ first-here states s (count s - suc i) i (eqb-false (fault states s i) 0 f) in
             let answer = at-fault even i first (turn .more) in
-            (ap (λ (n : ℕ). refused n (4 * i)) (number ∙ ap stopOf g) ∙ answer .0, h ∙ answer .1)
+            (ap (λ (n : ℕ). Refused n (4 * i)) (number ∙ ap stopOf g) ∙ answer .0, h ∙ answer .1)

@@ -7,6 +7,7 @@ use lib.ListN.{length}
 use Rattle.automata.specs.declared.Head.{Head}
 use Rattle.records.specs.declared.Checked.{Checked}
 use Rattle.records.specs.declared.Checked.the-variants.{Good, Refused}
+use Rattle.records.specs.declared.Refusal.{Refusal}
 use Rattle.records.specs.Spelled.{byte, count, kindI, kindF, kindT, among, started, startIn, statesIn, acceptingIn}
 
 -- the records before record i have it already: the same T or F, or any I
@@ -31,9 +32,6 @@ firstFault states s (suc k) i = cond (eqb (fault states s i) 0) (firstFault stat
 unfoldable pub goodRecords : ℕ → List ℕ → ℕ
 goodRecords states s = cond (eqb (length s % 4) 0) (firstFault states s (count s) 0) 0
 
-abbrev pub refused : ℕ → ℕ → Checked
-refused number place = Refused (record { number = number; place = place })
-
 unfoldable pub headOf : List ℕ → Head
 headOf s = record { start = startIn s (count s); accepting = acceptingIn s (count s); states = statesIn s (count s) }
 
@@ -41,15 +39,15 @@ headOf s = record { start = startIn s (count s); accepting = acceptingIn s (coun
 unfoldable pub judged : ℕ → List ℕ → Checked
 judged states s =
     cond (eqb (length s % 4) 0)
-    (cond (ltb (goodRecords states s) (count s)) (refused (fault states s (goodRecords states s)) (4 * goodRecords states s))
-    (cond (started s (count s)) (Good (headOf s)) (refused 6 (length s))))
-    (refused 1 (4 * count s))
+    (cond (ltb (goodRecords states s) (count s)) (Refused (fault states s (goodRecords states s)) (4 * goodRecords states s))
+    (cond (started s (count s)) (Good (headOf s)) (Refused 6 (length s))))
+    (Refused 1 (4 * count s))
 
--- document 01's number and place of each answer
-abbrev pub numberOf : Checked → ℕ
-numberOf (Good head) = 0
-numberOf (Refused r) = r .number
+-- a refusal as document 01 tells it
+abbrev pub refusal : ℕ → ℕ → ℕ → Refusal
+refusal number which place = record { number = number; which = which; place = place }
 
-abbrev pub placeOf : Checked → ℕ
-placeOf (Good head) = 0
-placeOf (Refused r) = r .place
+-- document 01's number, which and place of each answer for the file of that number
+abbrev pub refusalOf : ℕ → Checked → Refusal
+refusalOf which (Good head) = refusal 0 0 0
+refusalOf which (Refused number place) = refusal number which place

@@ -8,21 +8,22 @@ ghost use Prim.Native.Nat.{_+_, _*_, _^_, _<_, _≤_, max};
 ghost use lib.ListN.{length, take, drop};
 ghost use Rattle.bits.specs.Sets.{union};
 ghost use Rattle.records.specs.Spelled.{kindI, kindF, kindT, tableOf};
-ghost use Rattle.records.specs.Faults.{goodRecords, judged, numberOf, placeOf};
+ghost use Rattle.records.specs.Faults.{goodRecords, judged, refusalOf};
 ghost use Rattle.records.specs.Steps.{recordOf, recordAt, Sized, initialStep, acceptingStep, transitionStep, transitionTable, stepBy, tableBy, stopOf};
 ghost use Rattle.records.specs.Narrow.{narrowRow, narrow};
 ghost use Rattle.records.specs.BadRecord.{fileOf, badFile, badStart, badRecord};
 
-// Document 01's number of a refusal, and its place.
+// A refusal as document 01 tells it: its number, which file, word or table it is about, and its place there.
 pub struct Refusal {
     pub number: u8,
+    pub which: u8,
     pub place: usize,
 }
 
-// What reading a file answers.
+// What reading a file answers: its head, or the number and the place of its first fault.
 pub enum Checked {
     Good(Head),
-    Refused(Refusal),
+    Refused(u8, usize),
 }
 
 // A transition.
@@ -46,22 +47,21 @@ enum Step {
     Stop(u8),
 }
 
-// Document 01's number and place of an answer.
-pub fn number_of(c: Checked) -> u8
-    ensures { λ r. ⌜ r ≡ numberOf c ⌝ }
+// The refusal that an answer for the file of that number is, all 0 for a good file.
+pub fn refusal_of(which: u8, file: Checked) -> Refusal
+    ensures { λ r. ⌜ r ≡ refusalOf which file ⌝ }
 {
-    match c {
-        Checked::Good(_) => 0,
-        Checked::Refused(r) => r.number,
-    }
-}
-
-pub fn place_of(c: Checked) -> usize
-    ensures { λ r. ⌜ r ≡ placeOf c ⌝ }
-{
-    match c {
-        Checked::Good(_) => 0,
-        Checked::Refused(r) => r.place,
+    match file {
+        Checked::Good(_) => Refusal {
+            number: 0,
+            which: 0,
+            place: 0,
+        },
+        Checked::Refused(number, place) => Refusal {
+            number,
+            which,
+            place,
+        },
     }
 }
 
@@ -234,10 +234,7 @@ pub fn read(s: &[u8], states: u8, table: &mut [[u16; 16]; 16]) -> Checked
     let n = s.len();
     let count = n / 4;
     if n % 4 != 0 {
-        return Checked::Refused(Refusal {
-            number: 1,
-            place: 4 * count,
-        });
+        return Checked::Refused(1, 4 * count);
     }
     let mut head = Head {
         start: 16,
@@ -249,19 +246,13 @@ pub fn read(s: &[u8], states: u8, table: &mut [[u16; 16]; 16]) -> Checked
         let r = record_at(s, i, states);
         let step = add(table, head, r);
         let Step::On(next) = step else {
-            return Checked::Refused(Refusal {
-                number: stop_of(step),
-                place: 4 * i,
-            });
+            return Checked::Refused(stop_of(step), 4 * i);
         };
         head = next;
         i += 1;
     }
     if head.start == 16 {
-        return Checked::Refused(Refusal {
-            number: 6,
-            place: n,
-        });
+        return Checked::Refused(6, n);
     }
     Checked::Good(head)
 }

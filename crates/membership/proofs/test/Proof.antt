@@ -15,20 +15,14 @@ enum-known-file c = search needs
 enum-told : tie.Need-enum-told
 enum-told c = search needs
 
-number-of-requires : tie.Need-number-of-requires
-number-of-requires c κs = search needs
-
-place-of-requires : tie.Need-place-of-requires
-place-of-requires c κs = search needs
-
-refused-requires : tie.Need-refused-requires
-refused-requires c κs = search needs
+refusal-of-requires : tie.Need-refusal-of-requires
+refusal-of-requires c κs = search needs
 
 returns : tie.Need-returns
 returns c =
-    let read = c .before .before .before .before .before in
+    let read = c .before .before .before in
     let args = read .before .before .before .before .before .args in
-    test-right (cc (bad-file (args .records .now) (args .stem .now) (args .period .now) (read .read .ensures .0) (c .before .before .before .enum-told .given .1)))
+    test-right (cc (bad-file (args .records .now) (args .stem .now) (args .period .now) (read .read .ensures .0) (c .before .enum-told .given .1)))
 
 test-words-requires : tie.Need-test-words-requires
 test-words-requires c κs =
@@ -50,9 +44,7 @@ test-spec =
     read-requires
     enum-known-file
     enum-told
-    number-of-requires
-    place-of-requires
-    refused-requires
+    refusal-of-requires
     returns
     test-words-requires
     returns-2)

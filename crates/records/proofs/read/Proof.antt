@@ -61,8 +61,8 @@ enum-told c = search needs
 stop-of-requires : tie.Need-stop-of-requires Inv-loop μ-loop
 stop-of-requires c κs = search needs
 
-mul-t20 : tie.Need-mul-t20 Inv-loop μ-loop
-mul-t20 c = search needs
+mul-t19 : tie.Need-mul-t19 Inv-loop μ-loop
+mul-t19 c = search needs
 
 returns-2 : tie.Need-returns-2 Inv-loop μ-loop
 returns-2 c =
@@ -112,7 +112,7 @@ read-spec =
     enum-known-step
     enum-told
     stop-of-requires
-    mul-t20
+    mul-t19
     returns-2
     add-i
     loop-less
