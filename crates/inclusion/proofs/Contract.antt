@@ -51,7 +51,7 @@ any-room S P S′ P′ c periodsFull d = absurd (false≢true d)
 
 zero-of : {model rule : List ℕ} {S P : ℕ} {old : Buffers} {r : Answer} {new : Buffers} → Outcome model rule S P old r new → numberOf r ≡ 0 → Zero model rule S P old r new
 unfolding numbersOf
-zero-of {model} {rule} {S} {P} {old} (stopped n k p e) z = absurd (omega (arith, stop-number model rule S P old e))
+zero-of {model} {rule} {S} {P} {old} (stopped refusal e) z = absurd (omega (arith, stop-number model rule S P old e))
 zero-of {model} {rule} {S} {P} (walked m) z =
     let walk = walkOf model rule S P in
     let d = zero-decided S P (countsOf walk) (walk .finish .verdict) .0 z in

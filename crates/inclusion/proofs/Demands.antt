@@ -7,6 +7,7 @@ use lib.ListN.{length, take}
 use lib.Seq.{take-append-seam}
 use Rattle.acceptance.specs.Lasso.{Included, Shown}
 use Rattle.growth.specs.Lent.{over}
+use Rattle.records.specs.declared.Refusal.{Refusal}
 use Rattle.records.specs.Spelled.{spelled}
 use Rattle.search.specs.declared.Counts.{Counts}
 use Rattle.search.specs.declared.Lengths.{Lengths}
@@ -18,7 +19,7 @@ use Rattle.search.proofs.Bounds.{walk-bounds, walk-tables, walk-decided}
 use Rattle.search.proofs.Room.{walk-filled, short}
 use Rattle.inclusion.specs.declared.Answer.{Answer}
 use Rattle.inclusion.specs.declared.Answer.the-variants as says
-use Rattle.inclusion.specs.Answers.{none-counted, refused, Start, walks, stops, startOf, walkOf, decided, left, numbersOf}
+use Rattle.inclusion.specs.Answers.{none-counted, Start, walks, stops, startOf, walkOf, decided, left, numbersOf}
 use Rattle.inclusion.specs.Decided.{numberOf, countsIn, statesOf, Counted, Tabled, Lacking, Filled, Made, Decided}
 use Rattle.inclusion.proofs.Started.{enough, ready, model-bounded, rule-small, model-numbered, rule-numbered}
 use Rattle.inclusion.proofs.Refusals.{stop-number}
@@ -44,7 +45,7 @@ module _ (model rule : List ℕ) (S P : ℕ) (old : Buffers) where
 
   -- how the answer and the buffers at exit come about
   pub data Outcome : Answer → Buffers → Type 0 where
-    stopped : (number which place : ℕ) → startOf model rule S P old ≡ stops number which place → Outcome (refused number which place none-counted) old
+    stopped : (r : Refusal) → startOf model rule S P old ≡ stops r → Outcome (says.Refused r none-counted) old
     walked : goes → Outcome (answerBy S P counts verdict) (leftBy walk P old)
 
   pub outcome : Outcome (decided model rule S P old) (left model rule S P old)
@@ -52,15 +53,15 @@ module _ (model rule : List ℕ) (S P : ℕ) (old : Buffers) where
   outcome = at (startOf model rule S P old) refl
     where
       at : (s : Start) → startOf model rule S P old ≡ s
-          → Outcome (elim s [ walks ↦ answerBy S P counts verdict | stops n k p ↦ refused n k p none-counted ]) (elim s [ walks ↦ leftBy walk P old | stops n k p ↦ old ])
+          → Outcome (elim s [ walks ↦ answerBy S P counts verdict | stops r ↦ says.Refused r none-counted ]) (elim s [ walks ↦ leftBy walk P old | stops r ↦ old ])
       at walks e = walked e
-      at (stops n k p) e = stopped n k p e
+      at (stops r) e = stopped r e
 
   -- ---- each demand of it
 
   is-shown : {r : Answer} {new : Buffers} → Outcome r new → (c : Counts) (l : Lengths) → r ≡ says.NotIncluded c l → Shown (spelled model) (spelled rule) (take (l .stem) (new .stem)) (take (l .period) (new .period))
   unfolding leftBy
-  is-shown (stopped n k p e) c l q = absurd (let z : _≡_ {A = ℕ} 0 1 = cc in omega arith)
+  is-shown (stopped refusal e) c l q = absurd (let z : _≡_ {A = ℕ} 0 1 = cc in omega arith)
   is-shown (walked m) c l q =
       let (_, _, k) = ready m in
       let room = enough S P old (k .lends) in
@@ -69,11 +70,11 @@ module _ (model rule : List ℕ) (S P : ℕ) (old : Buffers) where
       (walk-shown (model-bounded k) (rule-small k) S P (room .few-stems) (room .few-periods) (s .verdict-is))
 
   is-included : {r : Answer} {new : Buffers} → Outcome r new → (c : Counts) → r ≡ says.Included c → Included (spelled model) (spelled rule)
-  is-included (stopped n k p e) c q = absurd (let z : _≡_ {A = ℕ} 0 1 = cc in omega arith)
+  is-included (stopped refusal e) c q = absurd (let z : _≡_ {A = ℕ} 0 1 = cc in omega arith)
   is-included (walked m) c q = let (_, _, k) = ready m in walk-included (model-bounded k) (rule-small k) S P (included-from S P counts verdict q)
 
   is-bounded : {r : Answer} {new : Buffers} → Outcome r new → Counted (statesOf model) (statesOf rule) (countsIn r)
-  is-bounded (stopped n k p e) = record { u-bound = omega arith; w-bound = omega arith; p-bound = omega arith; t-bound = omega arith }
+  is-bounded (stopped refusal e) = record { u-bound = omega arith; w-bound = omega arith; p-bound = omega arith; t-bound = omega arith }
   is-bounded (walked m) =
       let (_, _, k) = ready m in
       let b = walk-bounds (model-bounded k) (rule-small k) (model-numbered k) (rule-numbered k) S P in
@@ -81,7 +82,7 @@ module _ (model rule : List ℕ) (S P : ℕ) (old : Buffers) where
 
   -- where the walk is made, both are the walk's
   pub made-by : {r : Answer} {new : Buffers} → goes → Outcome r new → (r ≡ answerBy S P counts verdict) × (new ≡ leftBy walk P old)
-  made-by m (stopped n k p e) = absurd (let z : _≡_ {A = ℕ} 0 1 = cc in omega arith)
+  made-by m (stopped refusal e) = absurd (let z : _≡_ {A = ℕ} 0 1 = cc in omega arith)
   made-by m (walked _) = (refl, refl)
 
   is-roomy : {r : Answer} {new : Buffers} → goes → Outcome r new → statesOf model * 2 ^ statesOf rule ≤ S → statesOf model * 3 ^ (statesOf rule * statesOf rule) ≤ P → numberOf r ≡ 0
@@ -105,7 +106,7 @@ module _ (model rule : List ℕ) (S P : ℕ) (old : Buffers) where
 
   is-filled : {r : Answer} {new : Buffers} → Outcome r new → Filled S P r
   unfolding numbersOf
-  is-filled (stopped n k p e) =
+  is-filled (stopped refusal e) =
       let low = stop-number model rule S P old e in
       record { in-u = λ h. absurd (omega arith); in-w = λ h. absurd (omega arith); in-periods = λ h. absurd (omega arith) }
   is-filled (walked m) =

@@ -6,7 +6,7 @@ use Prim.Native.Nat.{ℕ}
 use native.Mathlib.Omega.{arith}
 use lib.ListN.{getD}
 use Rattle.acceptance.specs.Lasso.{Word}
-use Rattle.membership.specs.declared.Refusal.{Refusal}
+use Rattle.records.specs.declared.Refusal.{Refusal}
 use Rattle.search.specs.declared.Counts.{Counts}
 use Rattle.search.specs.declared.Lengths.{Lengths}
 use Rattle.search.specs.Ending.{Buffers}

@@ -6,17 +6,16 @@ use Prim.Native.Nat.{ℕ}
 use borrow.Author.Tests.{lt-ltb, le-leb}
 use Rattle.bits.proofs.Truth.{and-both, false-from}
 use Rattle.automata.specs.declared.Head.{Head}
-use Rattle.records.specs.declared.Refusal.{Refusal as Fault}
 use Rattle.records.specs.declared.Checked.{Checked}
 use Rattle.records.specs.declared.Checked.the-variants.{Good, Refused as Faulty}
 use Rattle.records.specs.Spelled.{tableOf}
-use Rattle.records.specs.Faults.{goodRecords, judged, numberOf, placeOf}
+use Rattle.records.specs.Faults.{goodRecords, judged, refusal, refusalOf}
 use Rattle.records.specs.Narrow.{narrow}
 use Rattle.search.specs.Ending.{Buffers}
 use Rattle.inclusion.specs.declared.Outset.{Outset}
-use Rattle.inclusion.specs.declared.Outset.the-variants.{Walks}
-use Rattle.inclusion.specs.Answers.{lentEnough}
-use Rattle.inclusion.specs.Judged.{stop, outsetOf, Loads}
+use Rattle.inclusion.specs.declared.Outset.the-variants.{Walks, Stops}
+use Rattle.inclusion.specs.Answers.{lentEnough, outsetOf}
+use Rattle.inclusion.specs.Judged.{Loads}
 use Rattle.inclusion.proofs.Started.{Enough, enough}
 
 -- ---- what is lent
@@ -36,15 +35,15 @@ module _ {S P : ℕ} {lent : Buffers} where
 -- ---- the judgement, f and g being what reading the files answers
 
 module _ {f : Checked} (g : Checked) (lends : Bool) where
-  pub model-refused : {r : Fault} → f ≡ Faulty r → stop (numberOf f) 0 (placeOf f) ≡ outsetOf f g lends
+  pub model-refused : {number place : ℕ} → f ≡ Faulty number place → Stops (refusalOf 0 f) ≡ outsetOf f g lends
   unfolding outsetOf
   model-refused e = rw e
 
-  pub rule-refused : {a : Head} {r : Fault} → f ≡ Good a → g ≡ Faulty r → stop (numberOf g) 1 (placeOf g) ≡ outsetOf f g lends
+  pub rule-refused : {a : Head} {number place : ℕ} → f ≡ Good a → g ≡ Faulty number place → Stops (refusalOf 1 g) ≡ outsetOf f g lends
   unfolding outsetOf
   rule-refused e h = rw (e, h)
 
-  pub lacks : {a b : Head} → f ≡ Good a → g ≡ Good b → lends ≡ false → stop 7 0 0 ≡ outsetOf f g lends
+  pub lacks : {a b : Head} → f ≡ Good a → g ≡ Good b → lends ≡ false → Stops (refusal 7 0 0) ≡ outsetOf f g lends
   unfolding outsetOf
   lacks e h l = rw (e, h, l)
 

@@ -1,17 +1,15 @@
 -- The entry point from the judgement on: where it stops, and where it makes the walk of the two loaded automata, which is that of the files.
 -- Assumes nothing.
-use mathlib.Core.Bool.{Bool, true, false, cond}
+use mathlib.Core.Bool.{Bool}
 use mathlib.Core.List.{List}
-use mathlib.Core.Path.{_≡_, refl, sym, ap, _∙_}
+use mathlib.Core.Path.{_≡_, sym, ap, _∙_}
 use Prim.Native.Nat.{ℕ}
 use Rattle.automata.specs.declared.Head.{Head}
 use Rattle.automata.specs.Loaded.{cell, autOf}
-use Rattle.records.specs.declared.Checked.{Checked}
-use Rattle.records.specs.declared.Checked.the-variants.{Good, Refused as Faulty}
+use Rattle.records.specs.declared.Refusal.{Refusal}
 use Rattle.records.specs.Spelled.{spelled}
 use Rattle.records.specs.Faults.{judged}
 use Rattle.records.proofs.Loaded.{loaded-model, loaded-rule}
-use Rattle.membership.specs.declared.Refusal.{Refusal}
 use Rattle.search.specs.declared.Ending.{Ending}
 use Rattle.search.specs.Walk.{Walked, walk}
 use Rattle.search.specs.Ending.{Buffers, endingOf, leftBy}
@@ -19,17 +17,12 @@ use Rattle.search.specs.Contract.{Prepared, Concluded}
 use Rattle.inclusion.specs.declared.Answer.{Answer}
 use Rattle.inclusion.specs.declared.Outset.{Outset}
 use Rattle.inclusion.specs.declared.Outset.the-variants.{Walks, Stops}
-use Rattle.inclusion.specs.Answers.{lentEnough, Start, walks, stops, startOf, answerTo, walkOf, decided, left}
-use Rattle.inclusion.specs.Judged.{outsetOf, Loads, stoppedBy}
+use Rattle.inclusion.specs.Answers.{lentEnough, outsetOf, startBy, startOf, answerTo, walkOf, decided, left}
+use Rattle.inclusion.specs.Judged.{Loads, stoppedBy}
 use Rattle.inclusion.specs.Decided.{Decided}
 use Rattle.inclusion.proofs.Started.{enough, Ready, ready, model-bounded, rule-small}
 use Rattle.inclusion.proofs.Judged.{goes}
 use Rattle.inclusion.proofs.Demands.{demands}
-
--- how the definition starts
-abbrev startBy : Outset → Start
-startBy (Walks a b) = walks
-startBy (Stops r) = stops (r .number) (r .which) (r .place)
 
 -- the six buffers at once
 leaves : {r : Walked} {P : ℕ} {old new : Buffers} {e : Ending} → Concluded r P old new e → new ≡ leftBy r P old
@@ -43,21 +36,10 @@ leaves c = λ i. record {
 }
 
 module _ (model rule : List ℕ) (S P : ℕ) (lent : Buffers) where
-  start-is : startOf model rule S P lent ≡ startBy (outsetOf (judged 16 model) (judged 8 rule) (lentEnough S P lent))
-  unfolding startOf outsetOf
-  start-is = at (judged 16 model) (judged 8 rule) (lentEnough S P lent)
-    where
-      at : (f g : Checked) (c : Bool)
-          → elim f [ Faulty r ↦ stops (r .number) 0 (r .place) | Good a ↦ elim g [ Faulty r ↦ stops (r .number) 1 (r .place) | Good b ↦ cond c walks (stops 7 0 0) ] ]
-          ≡ startBy (outsetOf f g c)
-      at (Faulty r) g c = refl
-      at (Good a) (Faulty r) c = refl
-      at (Good a) (Good b) true = refl
-      at (Good a) (Good b) false = refl
-
   heads : {a b : Head} → outsetOf (judged 16 model) (judged 8 rule) (lentEnough S P lent) ≡ Walks a b → Ready model rule S P lent a b
+  unfolding startOf
   heads e =
-      let (_, _, r) = ready (start-is ∙ ap startBy e) in
+      let (_, _, r) = ready (ap startBy e) in
       let same = goes (judged 8 rule) (lentEnough S P lent) (r .model-good) (r .rule-good) (r .lends) ∙ e in
       record { model-good = cc; rule-good = cc; lends = r .lends }
 
@@ -67,7 +49,8 @@ module _ (model rule : List ℕ) (S P : ℕ) (lent : Buffers) where
     judgement = rw (loads .outset, lends-is)
 
     starts : startOf model rule S P lent ≡ startBy o
-    starts = rw judgement start-is
+    unfolding startOf
+    starts = ap startBy (sym judgement)
 
     -- ---- it stops
 

@@ -11,9 +11,9 @@ use Rattle.records.specs.declared.Refusal.{Refusal}
 use Rattle.records.specs.declared.Checked.{Checked}
 use Rattle.records.specs.declared.Checked.the-variants.{Good, Refused as Faulty}
 use Rattle.records.specs.Spelled.{byte, kindI, kindF, kindT, count, started}
-use Rattle.records.specs.Faults.{again, fault, firstFault, goodRecords, refused, headOf, judged}
+use Rattle.records.specs.Faults.{again, fault, firstFault, goodRecords, headOf, judged}
 use Rattle.search.specs.Ending.{Buffers}
-use Rattle.inclusion.specs.Answers.{lentEnough, walks, stops, startOf}
+use Rattle.inclusion.specs.Answers.{lentEnough, outsetOf, stops, startBy, startOf}
 
 -- ---- a file
 
@@ -42,35 +42,34 @@ module _ (states : ℕ) (s : List ℕ) where
       at true q later h e = later (omega arith) e
       at false q later h e = eqb-false (fault states s i) 0 q e
 
-  file-number : {r : Refusal} → judged states s ≡ Faulty r → (1 ≤ r .number) × (r .number ≤ 6)
+  file-number : {number place : ℕ} → judged states s ≡ Faulty number place → (1 ≤ number) × (number ≤ 6)
   unfolding judged goodRecords
-  file-number {r} e = at (eqb (length s % 4) 0) refl (ltb (goodRecords states s) (count s)) refl (started s (count s)) e
+  file-number {number} {place} e = at (eqb (length s % 4) 0) refl (ltb (goodRecords states s) (count s)) refl (started s (count s)) e
     where
       at : (a : Bool) → eqb (length s % 4) 0 ≡ a → (b : Bool) → ltb (goodRecords states s) (count s) ≡ b → (c : Bool)
-          → cond a (cond b (refused (fault states s (goodRecords states s)) (4 * goodRecords states s)) (cond c (Good (headOf s)) (refused 6 (length s)))) (refused 1 (4 * count s)) ≡ Faulty r
-          → (1 ≤ r .number) × (r .number ≤ 6)
+          → cond a (cond b (Faulty (fault states s (goodRecords states s)) (4 * goodRecords states s)) (cond c (Good (headOf s)) (Faulty 6 (length s)))) (Faulty 1 (4 * count s)) ≡ Faulty number place
+          → (1 ≤ number) × (number ≤ 6)
       at true ea true eb c e =
-          let same : fault states s (goodRecords states s) ≡ r .number = cc in
+          let same : fault states s (goodRecords states s) ≡ number = cc in
           let first : goodRecords states s ≡ firstFault states s (count s) 0 = rw ea in
           let faulty = first-is (count s) 0 (rw (← first) (omega (arith, ltb-true (goodRecords states s) (count s) eb))) in
           (some (fault states s (goodRecords states s)) (rw first faulty) same, omega (arith, fault-few (goodRecords states s)))
         where
-          some : (n : ℕ) → (n ≡ 0 → ⊥) → n ≡ r .number → 1 ≤ r .number
+          some : (n : ℕ) → (n ≡ 0 → ⊥) → n ≡ number → 1 ≤ number
           some n ne same = omega arith
       at true ea false eb true e = absurd (let z : _≡_ {A = ℕ} 0 1 = cc in omega arith)
-      at true ea false eb false e = let same : 6 ≡ r .number = cc in omega arith
-      at false ea b eb c e = let same : 1 ≡ r .number = cc in omega arith
+      at true ea false eb false e = let same : 6 ≡ number = cc in omega arith
+      at false ea b eb c e = let same : 1 ≡ number = cc in omega arith
 
 -- ---- before the walk
 
-pub stop-number : (model rule : List ℕ) (S P : ℕ) (lent : Buffers) {number which place : ℕ} → startOf model rule S P lent ≡ stops number which place → (1 ≤ number) × (number ≤ 7)
-unfolding startOf
-stop-number model rule S P lent {number} {which} {place} e = at (judged 16 model) refl (judged 8 rule) refl (lentEnough S P lent) e
+pub stop-number : (model rule : List ℕ) (S P : ℕ) (lent : Buffers) {r : Refusal} → startOf model rule S P lent ≡ stops r → (1 ≤ r .number) × (r .number ≤ 7)
+unfolding startOf outsetOf
+stop-number model rule S P lent {r} e = at (judged 16 model) refl (judged 8 rule) refl (lentEnough S P lent) e
   where
     at : (a : Checked) → judged 16 model ≡ a → (b : Checked) → judged 8 rule ≡ b → (c : Bool)
-        → elim a [ Faulty r ↦ stops (r .number) 0 (r .place) | Good x ↦ elim b [ Faulty r ↦ stops (r .number) 1 (r .place) | Good y ↦ cond c walks (stops 7 0 0) ] ] ≡ stops number which place
-        → (1 ≤ number) × (number ≤ 7)
+        → startBy (outsetOf a b c) ≡ stops r → (1 ≤ r .number) × (r .number ≤ 7)
     at (Good a) ea (Good b) eb true e = absurd (let z : _≡_ {A = ℕ} 0 1 = cc in omega arith)
-    at (Good a) ea (Good b) eb false e = let same : 7 ≡ number = cc in omega arith
-    at (Good a) ea (Faulty r) eb c e = let same : r .number ≡ number = cc in omega (arith, file-number 8 rule eb)
-    at (Faulty r) ea b eb c e = let same : r .number ≡ number = cc in omega (arith, file-number 16 model ea)
+    at (Good a) ea (Good b) eb false e = let same : 7 ≡ r .number = cc in omega arith
+    at (Good a) ea (Faulty number place) eb c e = let same : number ≡ r .number = cc in omega (arith, file-number 8 rule eb)
+    at (Faulty number place) ea b eb c e = let same : number ≡ r .number = cc in omega (arith, file-number 16 model ea)

@@ -1,6 +1,6 @@
 -- Where the walk is made: the files are good, S and P are in range and the buffers long enough; and so the two automata are within the limits of the
 -- walk and numbered by their states. Assumes nothing.
-use mathlib.Core.Bool.{Bool, true, false, _&&_, cond}
+use mathlib.Core.Bool.{Bool, true, false, _&&_}
 use mathlib.Core.List.{List}
 use mathlib.Core.Path.{_≡_, refl, sym, subst}
 use Prim.Native.Nat.{ℕ, _*_, _≤_}
@@ -21,7 +21,7 @@ use Rattle.records.specs.Faults.{judged, headOf}
 use Rattle.records.proofs.Good.{good-file}
 use Rattle.records.proofs.Limits.{spelled-small}
 use Rattle.search.specs.Ending.{Buffers}
-use Rattle.inclusion.specs.Answers.{lentEnough, walks, stops, startOf}
+use Rattle.inclusion.specs.Answers.{lentEnough, outsetOf, walks, startBy, startOf}
 use Rattle.inclusion.specs.Decided.{statesOf, Made}
 
 -- ---- the room and the lengths
@@ -81,16 +81,15 @@ pub record Ready (model rule : List ℕ) (S P : ℕ) (lent : Buffers) (a b : Hea
 
 module _ {model rule : List ℕ} {S P : ℕ} {lent : Buffers} where
   pub ready : Made model rule S P lent → (a : Head) × (b : Head) × Ready model rule S P lent a b
-  unfolding startOf
+  unfolding startOf outsetOf
   ready e = at (judged 16 model) refl (judged 8 rule) refl (lentEnough S P lent) refl (sym e)
     where
       at : (f : Checked) → judged 16 model ≡ f → (g : Checked) → judged 8 rule ≡ g → (c : Bool) → lentEnough S P lent ≡ c
-          → walks ≡ elim f [ Faulty r ↦ stops (r .number) 0 (r .place) | Good a ↦ elim g [ Faulty r ↦ stops (r .number) 1 (r .place) | Good b ↦ cond c walks (stops 7 0 0) ] ]
-          → (a : Head) × (b : Head) × Ready model rule S P lent a b
+          → walks ≡ startBy (outsetOf f g c) → (a : Head) × (b : Head) × Ready model rule S P lent a b
       at (Good a) ef (Good b) eg true ec e = (a, b, record { model-good = ef; rule-good = eg; lends = ec })
       at (Good a) ef (Good b) eg false ec e = absurd (let z : _≡_ {A = ℕ} 0 1 = cc in omega arith)
-      at (Good a) ef (Faulty r) eg c ec e = absurd (let z : _≡_ {A = ℕ} 0 1 = cc in omega arith)
-      at (Faulty r) ef g eg c ec e = absurd (let z : _≡_ {A = ℕ} 0 1 = cc in omega arith)
+      at (Good a) ef (Faulty number place) eg c ec e = absurd (let z : _≡_ {A = ℕ} 0 1 = cc in omega arith)
+      at (Faulty number place) ef g eg c ec e = absurd (let z : _≡_ {A = ℕ} 0 1 = cc in omega arith)
 
   -- both automata are as the walk wants them
   module _ {a b : Head} (r : Ready model rule S P lent a b) where

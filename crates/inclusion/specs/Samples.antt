@@ -5,6 +5,7 @@ use mathlib.Core.List.{List, [], _∷_, _++_, map}
 use Prim.Native.Nat.{ℕ}
 use lib.ListN.{length, take, replicate}
 use Rattle.acceptance.specs.Lasso.{Word}
+use Rattle.records.specs.Faults.{refusal}
 use Rattle.membership.specs.declared.Tested.{Tested}
 use Rattle.membership.specs.declared.Tested.the-variants.{Accepted, Rejected}
 use Rattle.membership.specs.Test.{tested}
@@ -13,7 +14,7 @@ use Rattle.search.specs.declared.Lengths.{Lengths}
 use Rattle.search.specs.Ending.{Buffers}
 use Rattle.inclusion.specs.declared.Answer.{Answer}
 use Rattle.inclusion.specs.declared.Answer.the-variants as says
-use Rattle.inclusion.specs.Answers.{refused, decided, left}
+use Rattle.inclusion.specs.Answers.{decided, left}
 
 -- ---- what a sample says
 
@@ -63,7 +64,7 @@ abbrev pub shown : Counts → (stem period : Word) → Reply
 shown c stem period = decides (says.NotIncluded c (record { stem = length stem; period = length period })) stem period
 
 abbrev pub lacking : (number which place : ℕ) → Counts → Reply
-lacking number which place c = decides (refused number which place c) [] []
+lacking number which place c = decides (says.Refused (refusal number which place) c) [] []
 
 -- ---- the files
 

@@ -1,15 +1,17 @@
 //! The entry point: two record files, the room, and six lent buffers.
 use automata::Head;
-use membership::Refusal;
 use records::Checked;
+use records::Refusal;
 use search::Counts;
 use search::Ending;
 use search::Lengths;
 ghost use mathlib.Core.List.{[], _∷_};
 ghost use mathlib.Core.Path.{_≡_};
-ghost use Rattle.inclusion.specs.Answers.{refused as refusal, lentEnough, answerTo, numbersOf};
+ghost use Rattle.records.specs.Faults.{refusal};
+ghost use Rattle.inclusion.specs.declared.Answer.the-variants.{Refused};
+ghost use Rattle.inclusion.specs.Answers.{lentEnough, outsetOf, answerTo, numbersOf};
 ghost use Rattle.inclusion.specs.Decided.{Decided};
-ghost use Rattle.inclusion.specs.Judged.{stop, outsetOf, Loads, stoppedBy};
+ghost use Rattle.inclusion.specs.Judged.{Loads, stoppedBy};
 
 // What the tool answers: a verdict with its counts, for a shown lasso the lengths of its words, or a refusal with the counts so far.
 pub enum Answer {
@@ -24,29 +26,22 @@ enum Outset {
     Stops(Refusal),
 }
 
-// A refusal before the walk.
-fn stopped(number: u8, which: u8, place: usize) -> Outset
-    ensures { λ r. ⌜ r ≡ stop number which place ⌝ }
-{
-    Outset::Stops(Refusal {
-        number,
-        which,
-        place,
-    })
-}
-
 // What comes first: the model's refusal, the rule's, 7 where too little is lent, and else the walk.
 fn judge(model: Checked, rule: Checked, enough: bool) -> Outset
     ensures { λ r. ⌜ r ≡ outsetOf model rule enough ⌝ }
 {
     let Checked::Good(model_head) = model else {
-        return stopped(records::number_of(model), 0, records::place_of(model));
+        return Outset::Stops(records::refusal_of(0, model));
     };
     let Checked::Good(rule_head) = rule else {
-        return stopped(records::number_of(rule), 1, records::place_of(rule));
+        return Outset::Stops(records::refusal_of(1, rule));
     };
     if !enough {
-        return stopped(7, 0, 0);
+        return Outset::Stops(Refusal {
+            number: 7,
+            which: 0,
+            place: 0,
+        });
     }
     Outset::Walks(model_head, rule_head)
 }
@@ -117,7 +112,7 @@ fn lent_enough(
 
 // A refusal with the counts so far.
 fn refused(number: u8, which: u8, place: usize, counts: Counts) -> Answer
-    ensures { λ r. ⌜ r ≡ refusal number which place counts ⌝ }
+    ensures { λ r. ⌜ r ≡ Refused (refusal number which place) counts ⌝ }
 {
     Answer::Refused(
         Refusal {

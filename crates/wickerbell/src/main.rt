@@ -1,7 +1,7 @@
 //! The program: reads model.rec and rule.rec where it is run, decides with S = 4,096 and P = 2,048, and prints the answer.
 use inclusion::Answer;
 use libc::STDOUT_FILENO;
-use membership::Refusal;
+use records::Refusal;
 use search::Counts;
 
 // As many bytes of a file as fit; none of a file that cannot be opened.
