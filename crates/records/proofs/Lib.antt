@@ -9,3 +9,4 @@ pub mod Good
 pub mod Initial
 pub mod Limits
 pub mod Loaded
+pub mod Wrong
