@@ -11,9 +11,9 @@ use Rattle.bits.specs.Sets.{union}
 use Rattle.bits.proofs.Bits.{bit-setOf}
 use Rattle.automata.specs.declared.Head.{Head}
 use Rattle.automata.specs.Loaded.{cell}
-use Rattle.records.specs.declared.Record.{Record}
-use Rattle.records.specs.declared.Step.{Step}
-use Rattle.records.specs.declared.Step.the-variants.{On, Stop}
+use Rattle.records.specs.declared.adding.Record.{Record}
+use Rattle.records.specs.declared.adding.Step.{Step}
+use Rattle.records.specs.declared.adding.Step.the-variants.{On, Stop}
 use Rattle.records.specs.Spelled.{byte, kindI, kindF, kindT, among, started, startIn, named, statesIn, tableOf, acceptingIn}
 use Rattle.records.specs.Faults.{again, fault}
 use Rattle.records.specs.Steps.{recordAt, initialStep, acceptingStep, transitionStep, stepBy, transitionTable, tableBy}

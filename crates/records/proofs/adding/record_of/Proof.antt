@@ -1,10 +1,10 @@
--- `records::record_of` meets its contract: each kind goes to its own function. Assumes nothing.
+-- `adding::record_of` meets its contract: each kind goes to its own function. Assumes nothing.
 use mathlib.Core.Logic.{inl, inr}
 use borrow.Author.Tests.{ne-eqb}
 use borrow.Author.Needs.{needs}
 use Rattle.records.specs.Steps.{recordOf}
-use Rattle.records.proofs.record_of.Statement.{statement}
-use Rattle.records.proofs.record_of.Tie as tie
+use Rattle.records.proofs.adding.record_of.Statement.{statement}
+use Rattle.records.proofs.adding.record_of.Tie as tie
 
 transition-requires : tie.Need-transition-requires
 transition-requires c κs = search needs
