@@ -1,4 +1,5 @@
 -- The laws of the answer, and what follows from the contract.
+pub mod AtWork
 pub mod Started
 pub mod Answered
 pub mod Demands
