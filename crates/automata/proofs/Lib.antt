@@ -1,6 +1,5 @@
 -- The laws of the definitions in `specs/`, over the number of states.
 pub mod Members
-pub mod Meets
 pub mod Rows
 pub mod Listed
 pub mod Moving

@@ -10,3 +10,4 @@ pub mod Pairs
 pub mod Contained
 pub mod Fields
 pub mod Values
+pub mod Wrong

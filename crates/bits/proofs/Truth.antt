@@ -7,22 +7,20 @@ use mathlib.Core.Path.{_≡_, refl, sym, ap, ap₂, _∙_}
 pub coincide : {A : Type 0} {x y d : A} → x ≡ d → y ≡ d → x ≡ y
 coincide p q = p ∙ sym q
 
+-- a contract of the arguments, the result and the exit, at the lifetimes k, does not allow the result r at the arguments a: `Post` of a function's
+-- generated module is its contract as it stands in the code
+abbrev pub Refuses : {K : Type 0} {A R X : K → Type 0} → ((k : K) → A k → R k → X k → Type 0) → {k : K} → A k → R k → Type 0
+Refuses {X = X} post {k} a r = (x : X k) → post k a r x → ⊥
+
 -- two truth values are equal where each gives the other
 pub bool-same : (a b : Bool) → (a ≡ true → b ≡ true) → (b ≡ true → a ≡ true) → a ≡ b
 bool-same true b f g = sym (f refl)
 bool-same false true f g = g refl
 bool-same false false f g = refl
 
-pub true-from : (a : Bool) → (a ≡ false → ⊥) → a ≡ true
-true-from true f = refl
-true-from false f = absurd (f refl)
-
 pub false-from : (a : Bool) → (a ≡ true → ⊥) → a ≡ false
 false-from true f = absurd (f refl)
 false-from false f = refl
-
-pub not-from : (a : Bool) → (a ≡ true → ⊥) → not a ≡ true
-not-from a f = ap not (false-from a f)
 
 pub and-left : (a b : Bool) → (a && b) ≡ true → a ≡ true
 and-left true b e = refl

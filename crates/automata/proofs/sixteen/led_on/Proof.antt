@@ -10,10 +10,11 @@ use mir.Val.{Fits}
 use Rattle.bits.specs.Bits.{weight}
 use Rattle.bits.specs.Sets.{union}
 use Rattle.bits.specs.Pairs.{pair, row}
+use Rattle.bits.proofs.Operations.{weighed-lt}
 use Rattle.bits.proofs.Values.{Filled, filled-none, filled-more}
 use Rattle.automata.specs.Repeated.{ledOn}
 use Rattle.automata.specs.Loaded.{listed}
-use Rattle.automata.proofs.Members.{weighed-lt, and-shifted-lt}
+use Rattle.automata.proofs.Members.{and-shifted-lt}
 use Rattle.automata.proofs.Listed.{listed-filled, or-listed, times-listed}
 use Rattle.automata.proofs.sixteen.led_on.Statement.{statement}
 use Rattle.automata.proofs.sixteen.led_on.Tie as tie
