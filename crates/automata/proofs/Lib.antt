@@ -7,3 +7,4 @@ pub mod Longer
 pub mod Turning
 pub mod Closure
 pub mod Accepting
+pub mod Wrong

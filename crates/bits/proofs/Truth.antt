@@ -7,11 +7,6 @@ use mathlib.Core.Path.{_≡_, refl, sym, ap, ap₂, _∙_}
 pub coincide : {A : Type 0} {x y d : A} → x ≡ d → y ≡ d → x ≡ y
 coincide p q = p ∙ sym q
 
--- a contract of the arguments, the result and the exit, at the lifetimes k, does not allow the result r at the arguments a: `Post` of a function's
--- generated module is its contract as it stands in the code
-abbrev pub Refuses : {K : Type 0} {A R X : K → Type 0} → ((k : K) → A k → R k → X k → Type 0) → {k : K} → A k → R k → Type 0
-Refuses {X = X} post {k} a r = (x : X k) → post k a r x → ⊥
-
 -- two truth values are equal where each gives the other
 pub bool-same : (a b : Bool) → (a ≡ true → b ≡ true) → (b ≡ true → a ≡ true) → a ≡ b
 bool-same true b f g = sym (f refl)

@@ -8,7 +8,7 @@ use Rattle.bits.specs.Bits.{digit, pack, bit, weight, setOf, any, all}
 use Rattle.bits.specs.Sets.{subset, movesTo, moved, byRows}
 use Rattle.bits.specs.Pairs.{row, pairs, rowsOf}
 use Rattle.bits.specs.Fields.{stemEntry, stemState, stemLetter, periodLink, linkState, linkLetter}
-use Rattle.bits.proofs.Truth.{Refuses}
+use Rattle.bits.proofs.Refuses.{Refuses}
 use Rattle.bits.proofs.members.has.Reads as has
 use Rattle.bits.proofs.members.has16.Reads as has16
 use Rattle.bits.proofs.members.within.Reads as within
