@@ -5,7 +5,6 @@ use Prim.Native.Nat.{ℕ}
 use native.Mathlib.Omega.{arith}
 use lib.ListN.{getD}
 use Rattle.bits.proofs.Refuses.{Refuses}
-use Rattle.search.specs.declared.Lengths.{Lengths}
 use Rattle.inclusion.specs.declared.Answer.the-variants as says
 use Rattle.inclusion.specs.Answers.{refused, numbersOf}
 use Rattle.inclusion.specs.Samples.{counted}
