@@ -9,8 +9,7 @@ use Rattle.bits.specs.Sets.{subset, movesTo, moved, byRows}
 use Rattle.bits.specs.Pairs.{row, pairs, rowsOf}
 use Rattle.bits.specs.Fields.{stemEntry, stemState, stemLetter, periodLink, linkState, linkLetter}
 use Rattle.bits.proofs.Refuses.{Refuses}
-use Rattle.bits.proofs.members.has.Reads as has
-use Rattle.bits.proofs.members.has16.Reads as has16
+use Rattle.bits.proofs.members.has16.Reads as has
 use Rattle.bits.proofs.members.within.Reads as within
 use Rattle.bits.proofs.members.moved.Reads as moving
 use Rattle.bits.proofs.members.moved16.Reads as moving16
@@ -37,14 +36,6 @@ pub every-member : Refuses has.Post (5, (1, _)) true
 unfolding bit digit
 every-member x p = false≢true (sym p)
 
-pub next-member16 : Refuses has16.Post (5, (0, _)) (bit 5 1)
-unfolding bit digit
-next-member16 x p = false≢true p
-
-pub every-member16 : Refuses has16.Post (5, (1, _)) true
-unfolding bit digit
-every-member16 x p = false≢true (sym p)
-
 -- that 5 is within 7, asked the other way round; that it is within 4, which lacks one of its members
 pub other-way : Refuses within.Post (5, (7, _)) (subset 8 7 5)
 unfolding subset all bit digit
@@ -54,11 +45,13 @@ pub one-missing : Refuses within.Post (5, (4, _)) true
 unfolding subset all bit digit
 one-missing x p = false≢true (sym p)
 
--- ---- every state steps to 0: the set itself; without the last state
+-- ---- sets moved, where every state steps to 0: the set itself; nothing, for the last state
 
--- the row of each state
 abbrev steps : List ℕ
 steps = 1 ∷ 1 ∷ 1 ∷ 1 ∷ 1 ∷ 1 ∷ 1 ∷ 1 ∷ []
+
+abbrev steps16 : List ℕ
+steps16 = steps ++ steps
 
 pub not-moved : Refuses moving.Post (steps, (2, _)) 2
 unfolding moved setOf pack movesTo any byRows weight bit digit
@@ -67,9 +60,6 @@ not-moved x p = omega (arith, p)
 pub last-not-moved : Refuses moving.Post (steps, (128, _)) 0
 unfolding moved setOf pack movesTo any byRows weight bit digit
 last-not-moved x p = omega (arith, p)
-
-abbrev steps16 : List ℕ
-steps16 = steps ++ steps
 
 pub not-moved16 : Refuses moving16.Post (steps16, (2, _)) 2
 unfolding moved setOf pack movesTo any byRows weight bit digit
@@ -104,8 +94,8 @@ seven-columns x p = omega (arith, p)
 abbrev stem : ℕ
 stem = stemEntry 128 8 9 2048
 
-pub state-for-letter : Refuses stem-entry.Post (128, (8, (9, (2048, _)))) (stemEntry 128 9 8 2048)
-state-for-letter x p = omega (arith, p)
+pub letter-before-state : Refuses stem-entry.Post (128, (8, (9, (2048, _)))) (stemEntry 128 9 8 2048)
+letter-before-state x p = omega (arith, p)
 
 pub letter-too-low : Refuses stem-entry.Post (128, (8, (9, (2048, _)))) (128 + 256 * 8 + 2048 * 9 + 65536 * 2048)
 letter-too-low x p = omega (arith, p)
@@ -131,14 +121,14 @@ letter-of-three-bits x p = omega (arith, p)
 pub parent-of-eleven-bits : Refuses stem-parent.Post (stem, _) (stem / 65536 % 2048)
 parent-of-eleven-bits x p = omega (arith, p)
 
-pub letter-in-the-parent : Refuses stem-parent.Post (stem, _) (stem / 4096 % 4096)
-letter-in-the-parent x p = omega (arith, p)
+pub letter-in-parent : Refuses stem-parent.Post (stem, _) (stem / 4096 % 4096)
+letter-in-parent x p = omega (arith, p)
 
 abbrev link : ℕ
 link = periodLink 8 9 65535
 
-pub states-swapped : Refuses period-link.Post (8, (9, (65535, _))) (periodLink 9 8 65535)
-states-swapped x p = omega (arith, p)
+pub letter-before-link-state : Refuses period-link.Post (8, (9, (65535, _))) (periodLink 9 8 65535)
+letter-before-link-state x p = omega (arith, p)
 
 pub parent-too-low : Refuses period-link.Post (8, (9, (65535, _))) (8 + 16 * 9 + 256 * 65535)
 parent-too-low x p = omega (arith, p)
@@ -158,5 +148,5 @@ link-letter-of-three-bits x p = omega (arith, p)
 pub link-parent-of-twelve-bits : Refuses link-parent.Post (link, _) (link / 65536 % 4096)
 link-parent-of-twelve-bits x p = omega (arith, p)
 
-pub letter-in-the-link-parent : Refuses link-parent.Post (link, _) (link / 16 % 65536)
-letter-in-the-link-parent x p = omega (arith, p)
+pub letter-in-link-parent : Refuses link-parent.Post (link, _) (link / 16 % 65536)
+letter-in-link-parent x p = omega (arith, p)

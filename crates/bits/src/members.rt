@@ -5,7 +5,7 @@ ghost use Rattle.bits.specs.Bits.{bit};
 ghost use Rattle.bits.specs.Sets.{subset, moved, byRows};
 
 // Is q a member of x? It is if bit q, shifted to the lowest place, is 1.
-pub fn has(x: u8, q: usize) -> bool
+fn has(x: u8, q: usize) -> bool
     requires { ⌜ q < 8 ⌝ }
     ensures { λ r. ⌜ r ≡ bit x q ⌝ }
 {
