@@ -1,4 +1,4 @@
--- What it is that a contract rules an answer out. Assumes nothing.
+-- What it means that a contract rules an answer out. Assumes nothing.
 use denote.Ref.{RefT}
 
 -- a contract, of the arguments, the result and what is lent at exit, at the lifetimes k, does not allow the result r at the arguments a. A function's
