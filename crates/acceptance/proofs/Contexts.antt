@@ -1,46 +1,38 @@
--- The contexts that grow letter by letter describe their words, are known by them, and compare as the words do on the rows of a set. Assumes nothing.
+-- The contexts that grow letter by letter describe their words, and compare as the words do on the rows of a set. Assumes nothing.
 use mathlib.Core.Path.{_≡_, ap₂}
-use mathlib.Core.Bool.{Bool, true}
+use mathlib.Core.Bool.{true}
 use mathlib.Core.List.{[], _∷_, _++_}
 use Prim.Native.Nat.{ℕ, _*_, _^_, _<_}
 use lib.Pow.{pow-lt}
 use Rattle.bits.specs.Bits.{weight}
-use Rattle.bits.specs.Sets.{SetIs, subset}
+use Rattle.bits.specs.Sets.{SetIs}
 use Rattle.bits.specs.Pairs.{row, pairs, containedOn}
-use Rattle.bits.proofs.Sets.{setIs-subset, setIs-within, setIs-same}
-use Rattle.bits.proofs.Pairs.{row-lt, pairs-lt, row-pairs, pairs-ext}
+use Rattle.bits.proofs.Sets.{setIs-subset, setIs-within}
+use Rattle.bits.proofs.Operations.{weighed-lt}
+use Rattle.bits.proofs.Pairs.{pairs-lt, row-pairs}
 use Rattle.bits.proofs.Contained.{containedOn-intro, containedOn-elim}
 use Rattle.acceptance.specs.Lasso.{Word, Aut}
 use Rattle.acceptance.specs.Contexts.{Small, Context, idle, movedBy, throughBy, longer, Describes}
-use Rattle.acceptance.proofs.Paths.{forget}
 use Rattle.acceptance.proofs.Preserve.{Within}
 use Rattle.acceptance.proofs.Targets.{single-is, moved-is, movedBy-lt}
-use Rattle.acceptance.proofs.Passes.{weighed-lt, single-through, through-is, throughBy-lt}
+use Rattle.acceptance.proofs.Passes.{single-through, through-is, throughBy-lt}
 
 -- both numbers are sets of pairs of states below n
 pub record Fits (n : ℕ) (c : Context) : Type 0 where
   pub reach-lt : c .reach < 2 ^ (n * n)
   pub through-lt : c .through < 2 ^ (n * n)
 
-pub context-same : (c d : Context) → c .reach ≡ d .reach → c .through ≡ d .through → c ≡ d
-context-same c d p q = ap₂ of p q
+pub same-context : {c d : Context} → c .reach ≡ d .reach → c .through ≡ d .through → c ≡ d
+same-context p q = ap₂ of p q
   where
     of : ℕ → ℕ → Context
     of r t = record { reach = r; through = t }
-
-module _ (n : ℕ) (final : ℕ → Bool) where
-  idle-row : (q : ℕ) → q < n → weight (final q) * 2 ^ q < 2 ^ n
-  idle-row q l = weighed-lt (final q) n q l
-
-  pub idle-fits : Fits n (idle n final)
-  unfolding idle
-  idle-fits = record { reach-lt = pairs-lt n (λ q. 2 ^ q) (λ q. pow-lt); through-lt = pairs-lt n (λ q. weight (final q) * 2 ^ q) idle-row }
 
 pub describes-nil : (n : ℕ) (B : Aut) → Describes n B (idle n (B .final)) []
 unfolding idle
 describes-nil n B = record {
   reaches = λ q l. rw (row-pairs n (λ q. 2 ^ q) q (λ q. pow-lt) l) (single-is l);
-  passes = λ q l. rw (row-pairs n (λ q. weight (B .final q) * 2 ^ q) q (idle-row n (B .final)) l) (single-through l);
+  passes = λ q l. rw (row-pairs n (λ q. weight (B .final q) * 2 ^ q) q (λ q l. weighed-lt (B .final q) (pow-lt l)) l) (single-through l);
 }
 
 module _ (n : ℕ) (B : Aut) (c : Context) (x : ℕ) where
@@ -71,19 +63,6 @@ describes-snoc {n} {B} small {c} x d = record {
   reaches = λ q l. rw (longer-reach n B c x q l) (moved-is small x (d .reaches q l));
   passes = λ q l. rw (longer-through n B c x q l) (through-is small x (d .reaches q l) (d .passes q l));
 }
-
--- a word has one context
-pub describes-unique : {n : ℕ} {B : Aut} {c d : Context} {w : Word} → Fits n c → Fits n d → Describes n B c w → Describes n B d w → c ≡ d
-describes-unique {n} {c = c} {d} f g a b =
-    context-same c d
-    (pairs-ext n (c .reach) (d .reach) (f .reach-lt) (g .reach-lt)
-    (λ q l. setIs-same n (row-lt n (c .reach) q) (row-lt n (d .reach) q) (a .reaches q l) (b .reaches q l)))
-    (pairs-ext n (c .through) (d .through) (f .through-lt) (g .through-lt)
-    (λ q l. setIs-same n (row-lt n (c .through) q) (row-lt n (d .through) q) (a .passes q l) (b .passes q l)))
-
--- what is reached through acceptance is reached
-pub through-reach : {n : ℕ} {B : Aut} {c : Context} {w : Word} → Describes n B c w → (q : ℕ) → q < n → subset n (row n (c .through) q) (row n (c .reach) q) ≡ true
-through-reach {n} d q l = setIs-subset n (d .passes q l) (d .reaches q l) (λ r. forget)
 
 -- ---- contained on the rows of s is within there
 

@@ -1,12 +1,10 @@
 -- The test of a lasso: the set of states that its stem leads to and the rows of its period's context decide whether it is accepted. Assumes nothing.
 use mathlib.Core.Path.{_≡_}
-use mathlib.Core.Bool.{Bool, true, _&&_}
+use mathlib.Core.Bool.{Bool, true}
 use Prim.Native.Nat.{ℕ, zero, suc, _≤_, _<_}
 use native.Mathlib.Omega.{arith}
 use Rattle.bits.specs.Bits.{bit}
-use Rattle.bits.specs.Sets.{SetIs, meets}
-use Rattle.bits.proofs.Truth.{and-left, and-right, and-both}
-use Rattle.bits.proofs.Quantifiers.{any-intro, any-elim}
+use Rattle.bits.specs.Sets.{SetIs}
 use Rattle.acceptance.specs.Lasso.{Word, power, Aut, Reach, here, Through, accepting, Accepted}
 use Rattle.acceptance.proofs.Paths.{reach-append, reach-split, Seam, in-first, in-second, through-split, through-left, through-end}
 use Rattle.acceptance.proofs.Warshall.{Reaches, stay, then, reaches-append, reaches-small}
@@ -83,17 +81,3 @@ module _ (n : ℕ) {B : Aut} {v : Word} (reach through : ℕ → ℕ)
           stem = reach-append (stems .only q (o .from-small) e) ahead;
           loop = through-left (passing (o .at) (o .at-small) .only (o .to) (o .to-small) (o .passes)) back;
         }
-
-    -- x being the states with a loop: one look at both sets
-    module _ {x : ℕ} (looped : SetIs n x (Loops n reach through)) where
-      pub accepted-meets : Accepted B u v → meets n s x ≡ true
-      unfolding meets
-      accepted-meets a =
-          let (q, e, o) = accepted-loops a in
-          any-intro (λ q. bit s q && bit x q) n q (o .from-small) (and-both (bit s q) (bit x q) e (looped .has q o .1))
-
-      pub meets-accepted : meets n s x ≡ true → Accepted B u v
-      unfolding meets
-      meets-accepted e =
-          let (q, l, h) = any-elim (λ q. bit s q && bit x q) n e in
-          loops-accepted q (and-left (bit s q) (bit x q) h) (looped .only q l (and-right (bit s q) (bit x q) h))

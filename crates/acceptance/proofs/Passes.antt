@@ -4,13 +4,12 @@ use mathlib.Core.Bool.{Bool, true, false, _&&_, _||_, false≢true}
 use mathlib.Core.Logic.{_⊎_, inl, inr, ⊎-elim}
 use mathlib.Core.List.{[], _∷_, _++_}
 use Prim.Native.Nat.{ℕ, _*_, _^_, _<_}
-use native.Mathlib.Nat.{zero-mul, one-mul}
-use lib.Pow.{pow-lt, pow-pos}
 use Rattle.bits.specs.Bits.{bit, weight, setOf}
 use Rattle.bits.specs.Sets.{SetIs, union, meet}
 use Rattle.bits.proofs.Truth.{bool-same, and-left, and-right, and-both, or-left, or-right, or-cases}
 use Rattle.bits.proofs.Quantifiers.{any-intro, any-elim}
-use Rattle.bits.proofs.Bits.{bit-zero, bit-setOf, setOf-lt, setOf-is}
+use Rattle.bits.proofs.Bits.{bit-setOf, setOf-lt, setOf-is}
+use Rattle.bits.proofs.Operations.{bit-weighed}
 use Rattle.bits.proofs.Moved.{moved-has, has-moved}
 use Rattle.acceptance.specs.Lasso.{Word, Aut, Reach, Through, accepting}
 use Rattle.acceptance.specs.Contexts.{Small, movedBy, passesBy, throughBy}
@@ -20,25 +19,15 @@ use Rattle.acceptance.proofs.Targets.{single-is}
 -- ---- the empty word
 
 -- the set of q alone, or of nothing
-weighed : (b : Bool) (q i : ℕ) → bit (weight b * 2 ^ q) i ≡ (b && bit (2 ^ q) i)
-unfolding weight
-weighed true q i = ap (λ (y : ℕ). bit y i) (one-mul (2 ^ q))
-weighed false q i = ap (λ (y : ℕ). bit y i) (zero-mul (2 ^ q)) ∙ bit-zero i
-
-pub weighed-lt : (b : Bool) (n q : ℕ) → q < n → weight b * 2 ^ q < 2 ^ n
-unfolding weight
-weighed-lt true n q l = rw one-mul (pow-lt l)
-weighed-lt false n q l = rw zero-mul (pow-pos n)
-
 pub single-through : {n q : ℕ} {B : Aut} → q < n → SetIs n (weight (B .final q) * 2 ^ q) (Through B q [])
 single-through {n} {q} {B} l = record {
   has = λ r. alone;
-  only = λ r m e. let g = sym (weighed (B .final q) q r) ∙ e in
+  only = λ r m e. let g = sym (bit-weighed (B .final q) (2 ^ q) r) ∙ e in
       accepting (and-left (B .final q) (bit (2 ^ q) r) g) (single-is l .only r m (and-right (B .final q) (bit (2 ^ q) r) g));
 }
   where
     alone : {r : ℕ} → Through B q [] r → (r < n) × (bit (weight (B .final q) * 2 ^ q) r ≡ true)
-    alone {r} (accepting f h) = let (m, e) = single-is l .has r h in (m, weighed (B .final q) q r ∙ and-both (B .final q) (bit (2 ^ q) r) f e)
+    alone {r} (accepting f h) = let (m, e) = single-is l .has r h in (m, bit-weighed (B .final q) (2 ^ q) r ∙ and-both (B .final q) (bit (2 ^ q) r) f e)
 
 -- ---- one letter more
 

@@ -89,9 +89,6 @@ module _ {A : Aut} where
   one-step : {p x r : ℕ} → Reach A p (x ∷ []) r → A .step p x r ≡ true
   one-step (move t here) = t
 
-  pub reach-unsnoc : (w : Word) (x : ℕ) {p r : ℕ} → Reach A p (w ++ (x ∷ [])) r → (m : ℕ) × Reach A p w m × (A .step m x r ≡ true)
-  reach-unsnoc w x h = let (m, g, k) = reach-split w h in (m, g, one-step k)
-
   pub through-snoc : (w : Word) (x : ℕ) {p r : ℕ} → Last A p w x r → Through A p (w ++ (x ∷ [])) r
   through-snoc w x (passed h t) = through-left h (move t here)
   through-snoc w x {r = r} (closed {m = m} h t a) =

@@ -23,9 +23,6 @@ module _ {B : Aut} where
   pub below-trans : {u v w : Word} → Below B u v → Below B v w → Below B u w
   below-trans f g = record { reach = λ h. g .reach (f .reach h) }
 
-  pub below-refl : (u : Word) → Below B u u
-  below-refl u = record { reach = λ h. h }
-
   pub below-append : {u w : Word} (x : Word) → Below B u w → Below B (u ++ x) (w ++ x)
   below-append {u} x f = record { reach = λ h. let (m, g, k) = reach-split u h in reach-append (f .reach g) k }
 

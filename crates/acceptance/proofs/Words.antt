@@ -1,14 +1,14 @@
--- The context of a word, letter by letter: it describes the word, fits, and a walk along the word that counts up ends with it; the walk of a set likewise.
+-- The context of a word, letter by letter: it describes the word, and a walk along the word that counts up ends with it; the walk of a set likewise.
 -- Assumes nothing.
-use mathlib.Core.Path.{_≡_, refl, ap}
+use mathlib.Core.Path.{_≡_, ap}
 use mathlib.Core.List.{[], _∷_, _++_, append-nil, append-assoc}
 use Prim.Native.Nat.{ℕ, _+_, _<_, _≤_}
 use native.Mathlib.Numerals.{add-one}
 use lib.ListN.{length, getD, drop, drop-of-length-le}
 use lib.Seq.{drop-cons}
 use Rattle.acceptance.specs.Lasso.{Word, Aut}
-use Rattle.acceptance.specs.Contexts.{Small, Context, idle, movedBy, movedAll, longer, longerAll, contextOf, Describes}
-use Rattle.acceptance.proofs.Contexts.{Fits, idle-fits, longer-fits, describes-nil, describes-snoc}
+use Rattle.acceptance.specs.Contexts.{Small, Context, movedBy, movedAll, longer, longerAll, contextOf, Describes}
+use Rattle.acceptance.proofs.Contexts.{describes-nil, describes-snoc}
 
 -- what is left of a word is its next letter and what is left after that
 pub drop-next : (w : Word) (i : ℕ) → i < length w → drop i w ≡ getD w i 0 ∷ drop (i + 1) w
@@ -34,30 +34,6 @@ module _ (n : ℕ) (B : Aut) where
   pub longerAll-end : (c : Context) (w : Word) (i : ℕ) → length w ≤ i → longerAll n B c (drop i w) ≡ c
   unfolding longerAll
   longerAll-end c w i l = ap (longerAll n B c) (drop-of-length-le w l)
-
-  pub longerAll-append : (c : Context) (w x : Word) → longerAll n B c (w ++ x) ≡ longerAll n B (longerAll n B c w) x
-  unfolding longerAll
-  longerAll-append c [] x = refl
-  longerAll-append c (y ∷ w) x = longerAll-append (longer n B c y) w x
-
-  longerAll-fits : {c : Context} (w : Word) → Fits n c → Fits n (longerAll n B c w)
-  unfolding longerAll
-  longerAll-fits [] f = f
-  longerAll-fits {c} (x ∷ w) f = longerAll-fits w (longer-fits n B c x)
-
-  -- ---- the context of a word
-
-  pub contextOf-nil : contextOf n B [] ≡ idle n (B .final)
-  unfolding contextOf longerAll
-  contextOf-nil = refl
-
-  pub contextOf-append : (w x : Word) → contextOf n B (w ++ x) ≡ longerAll n B (contextOf n B w) x
-  unfolding contextOf
-  contextOf-append w x = longerAll-append (idle n (B .final)) w x
-
-  pub contextOf-fits : (w : Word) → Fits n (contextOf n B w)
-  unfolding contextOf
-  contextOf-fits w = longerAll-fits w (idle-fits n (B .final))
 
 module _ {n : ℕ} {B : Aut} (small : Small n B) where
   describes-append : {c : Context} {w : Word} (x : Word) → Describes n B c w → Describes n B (longerAll n B c x) (w ++ x)

@@ -9,13 +9,13 @@ use Rattle.bits.specs.Pairs.{pair, row}
 use Rattle.bits.proofs.Truth.{and-left, and-right, and-both}
 use Rattle.bits.proofs.Quantifiers.{any-intro, any-elim}
 use Rattle.bits.proofs.Bits.{bit-setOf}
+use Rattle.bits.proofs.Sets.{meets-intro, meets-elim}
 use Rattle.bits.proofs.Pairs.{bit-row}
 use Rattle.acceptance.specs.Lasso.{Word, Aut, Reach, Accepted}
 use Rattle.acceptance.specs.Contexts.{Small, Context, target, Describes}
 use Rattle.acceptance.proofs.Membership.{Loops, accepted-loops, loops-accepted}
 use Rattle.acceptance.proofs.Targets.{target-is}
 use Rattle.automata.specs.Repeated.{closure, turning, leadingInto, repeatedBy, repeated}
-use Rattle.automata.proofs.Meets.{meets-intro, meets-elim}
 use Rattle.automata.proofs.Closure.{closure-reaches}
 
 module _ (n : ℕ) (c : Context) where

@@ -8,12 +8,11 @@ use Rattle.bits.specs.Bits.{bit, weight}
 use Rattle.bits.specs.Sets.{union}
 use Rattle.bits.specs.Pairs.{pair, row, pairs}
 use Rattle.bits.proofs.Bits.{bit-setOf, setOf-lt}
-use Rattle.bits.proofs.Operations.{bit-power}
+use Rattle.bits.proofs.Operations.{bit-power, bit-weighed}
 use Rattle.bits.proofs.Pairs.{bit-row, row-pairs}
 use Rattle.acceptance.proofs.Membership.{byRow}
 use Rattle.acceptance.proofs.Warshall.{Reaches, reaches-stage, stage-reaches}
 use Rattle.automata.specs.Repeated.{ledOn, via, pathsOver, closure}
-use Rattle.automata.proofs.Members.{bit-weighed}
 
 module _ (n : ℕ) where
   bit-union : (x y q : ℕ) → q < n → bit (union n x y) q ≡ (bit x q || bit y q)

@@ -1,6 +1,5 @@
 -- The laws of the definitions in `specs/`, over the number of states.
 pub mod Members
-pub mod Meets
 pub mod Rows
 pub mod Listed
 pub mod Moving
@@ -8,3 +7,4 @@ pub mod Longer
 pub mod Turning
 pub mod Closure
 pub mod Accepting
+pub mod Wrong

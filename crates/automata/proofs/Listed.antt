@@ -8,12 +8,11 @@ use lib.ListN.{getD}
 use Rattle.bits.specs.Bits.{bit, weight}
 use Rattle.bits.specs.Sets.{union, meet}
 use Rattle.bits.specs.Pairs.{pair, row, pairs}
+use Rattle.bits.proofs.Operations.{lowest-weight}
 use Rattle.bits.proofs.Sets.{union-or, meet-and}
-use Rattle.bits.proofs.Pairs.{bit-row, row-pairs}
+use Rattle.bits.proofs.Pairs.{bit-row, row-pairs, pairs-cong}
 use Rattle.bits.proofs.Values.{Filled}
 use Rattle.automata.specs.Loaded.{listed}
-use Rattle.automata.proofs.Rows.{pairs-cong}
-use Rattle.automata.proofs.Members.{and-shifted}
 
 module _ (n : ℕ) where
   -- all rows are there
@@ -39,4 +38,4 @@ module _ (n : ℕ) where
 
     -- `((row >> p) & 1) * y`
     pub times-listed : (p y : ℕ) → p < n → bitAnd (getD rows q 0 / 2 ^ p) 1 * y ≡ weight (pair n (listed n rows) q p) * y
-    times-listed p y l = ap (λ (x : ℕ). x * y) (and-shifted (getD rows q 0) p ∙ ap weight (sym (pair-listed p l)))
+    times-listed p y l = ap (λ (x : ℕ). x * y) (lowest-weight (getD rows q 0) p ∙ ap weight (sym (pair-listed p l)))

@@ -10,20 +10,17 @@ use Rattle.bits.specs.Bits.{bit, weight}
 use Rattle.bits.specs.Sets.{union, meet, moved, byRows}
 use Rattle.bits.specs.Pairs.{row, pairs}
 use Rattle.bits.proofs.Bits.{setOf-is}
-use Rattle.bits.proofs.Pairs.{row-pairs}
+use Rattle.bits.proofs.Pairs.{row-pairs, pairs-cong}
 use Rattle.bits.proofs.Moved.{moved-lt}
 use Rattle.acceptance.specs.Contexts.{Context, idle, movedBy, throughBy, longer}
 use Rattle.acceptance.proofs.Passes.{unmarked-through}
 use Rattle.automata.specs.Loaded.{cell, autOf}
 use Rattle.automata.specs.declared.Head.{Head}
 use Rattle.automata.proofs.Members.{and-power}
-use Rattle.automata.proofs.Rows.{pairs-cong, and-pairs}
+use Rattle.automata.proofs.Rows.{and-pairs}
 
 abbrev of : ℕ → ℕ → Context
 of reach through = record { reach = reach; through = through }
-
-pub same-context : {c d : Context} → c .reach ≡ d .reach → c .through ≡ d .through → c ≡ d
-same-context e f = ap₂ of e f
 
 -- a set moved by a letter of a loaded automaton: by the letter's row of the table
 pub moved-by-letter : (n : ℕ) (t : List (List ℕ)) (head : Head) (s x : ℕ) → movedBy n (autOf (cell t) head) s x ≡ moved n (byRows (getD t x [])) s

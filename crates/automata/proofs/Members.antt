@@ -1,29 +1,19 @@
--- One member of a set: weighed by a truth value, taken out of a set, and put in by a loop over the states. Assumes nothing.
+-- One member of a set: taken out of it, and put in by a loop over the states. Assumes nothing.
 use mathlib.Core.Bool.{Bool, true, false, _&&_}
 use mathlib.Core.Path.{_≡_, refl, sym, ap, _∙_}
-use Prim.Native.Nat.{ℕ, _+_, _*_, _/_, _%_, _^_, _<_}
-use native.Mathlib.Nat.{lt-of-le-of-lt, zero-mul, one-mul, div-one, add-zero, mod-eq-of-lt}
+use Prim.Native.Nat.{ℕ, _+_, _*_, _%_, _^_, _<_}
+use native.Mathlib.Nat.{lt-of-le-of-lt, one-mul, div-one, mod-eq-of-lt}
 use native.Mathlib.Numerals.{add-one}
-use native.Mathlib.Omega.{arith}
 use borrow.Author.Tests.{eqb-true}
 use lib.Bits.{bitAnd, bitOr, and-mask, and-le-r, or-shifted-r}
 use lib.Dec.{eqb}
 use lib.Pow.{pow-lt}
-use mir.Val.{boolByte}
+use mir.Syntax.{Width}
+use mir.Val.{Fits, boolByte}
 use Rattle.bits.specs.Bits.{digit, pack, bit, weight, setOf}
 use Rattle.bits.proofs.Truth.{bool-same, and-left, and-right, and-both}
-use Rattle.bits.proofs.Bits.{digit-bit, bit-zero, bit-shr, bit-ext, setOf-lt}
-use Rattle.bits.proofs.Operations.{bit-and, bit-power}
-
-pub weighed-lt : (b : Bool) {y m : ℕ} → y < m → weight b * y < m
-unfolding weight
-weighed-lt true {y} l = rw one-mul l
-weighed-lt false {y} l = rw zero-mul (omega arith)
-
-pub bit-weighed : (b : Bool) (y i : ℕ) → bit (weight b * y) i ≡ (b && bit y i)
-unfolding weight
-bit-weighed true y i = ap (λ (x : ℕ). bit x i) (one-mul y)
-bit-weighed false y i = ap (λ (x : ℕ). bit x i) (zero-mul y) ∙ bit-zero i
+use Rattle.bits.proofs.Bits.{digit-bit, bit-ext, setOf-lt}
+use Rattle.bits.proofs.Operations.{bit-and, bit-power, weighed-lt, bit-weighed}
 
 -- `b as u8`
 pub as-weight : (b : Bool) → boolByte b ≡ weight b
@@ -38,13 +28,9 @@ pub and-lowest : (x : ℕ) → bitAnd x 1 ≡ weight (bit x 0)
 unfolding digit
 and-lowest x = and-mask x 1 ∙ ap (λ (y : ℕ). y % 2) (sym (div-one x)) ∙ digit-bit x 0
 
--- `(x >> p) & 1`
-pub and-shifted : (x p : ℕ) → bitAnd (x / 2 ^ p) 1 ≡ weight (bit x p)
-and-shifted x p = and-lowest (x / 2 ^ p) ∙ ap weight (bit-shr x p 0 ∙ ap (bit x) (add-zero p))
-
--- `((x >> p) & 1) * y`
-pub and-shifted-lt : (x p : ℕ) {y m : ℕ} → y < m → bitAnd (x / 2 ^ p) 1 * y < m
-and-shifted-lt x p l = rw (and-shifted x p) (weighed-lt (bit x p) l)
+-- `(x & 1) * y`
+pub lowest-times-fits : {w : Width} {y : ℕ} → Fits w y → (x : ℕ) → Fits w (bitAnd x 1 * y)
+lowest-times-fits h x = record { fits = rw (and-lowest x) (weighed-lt (bit x 0) (h .fits)) }
 
 -- q alone, if it is a member
 pub and-power : (n x q : ℕ) → q < n → bitAnd x (2 ^ q) ≡ weight (bit x q) * 2 ^ q

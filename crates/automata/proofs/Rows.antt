@@ -9,12 +9,13 @@ use lib.Pow.{pow-lt, pow-pos}
 use Rattle.bits.specs.Bits.{digit, pack, bit, weight}
 use Rattle.bits.specs.Sets.{union, meet}
 use Rattle.bits.specs.Pairs.{pair, row, pairs}
-use Rattle.bits.proofs.Digits.{pack-cong, power-pos, digit-above}
+use Rattle.bits.proofs.Digits.{power-pos, digit-above}
 use Rattle.bits.proofs.Bits.{bit-shr, setOf-lt}
+use Rattle.bits.proofs.Operations.{weighed-lt}
 use Rattle.bits.proofs.Sets.{union-or, meet-and}
-use Rattle.bits.proofs.Pairs.{row-weight, row-lt, bit-row, pairs-lt, row-pairs, pairs-is}
+use Rattle.bits.proofs.Pairs.{row-weight, row-lt, bit-row, pairs-lt, row-pairs, pairs-cong, pairs-is}
 use Rattle.automata.specs.Repeated.{ledOn}
-use Rattle.automata.proofs.Members.{weighed-lt, and-lowest}
+use Rattle.automata.proofs.Members.{and-lowest}
 
 pub meet-lt : (n x y : ℕ) → meet n x y < 2 ^ n
 unfolding meet
@@ -37,10 +38,6 @@ module _ (n : ℕ) where
   row-and : (c d q : ℕ) → row n (bitAnd c d) q ≡ bitAnd (row n c q) (row n d q)
   unfolding row digit
   row-and c d q = rw row-weight (ap (λ (x : ℕ). x % 2 ^ n) (and-shr c d (n * q)) ∙ and-mod (c / 2 ^ (n * q)) (d / 2 ^ (n * q)) n)
-
-  pub pairs-cong : (f g : ℕ → ℕ) → ((q : ℕ) → q < n → f q ≡ g q) → pairs n f ≡ pairs n g
-  unfolding pairs
-  pairs-cong f g same = pack-cong (2 ^ n) f g n same
 
   -- a number of n * n bits has its rows
   pub pairs-rows : (c : ℕ) → c < 2 ^ (n * n) → c ≡ pairs n (row n c)
@@ -65,12 +62,12 @@ module _ (n : ℕ) where
     pub or-rows : bitOr r (pairs n g) ≡ pairs n (λ q. union n (row n r q) (g q))
     or-rows =
         ap (λ (x : ℕ). bitOr x (pairs n g)) (pairs-rows r fits) ∙ or-pairs (row n r) g (λ q h. row-lt n r q) small
-        ∙ pairs-cong (λ q. bitOr (row n r q) (g q)) (λ q. union n (row n r q) (g q)) (λ q h. union-or n (row n r q) (g q) (row-lt n r q) (small q h))
+        ∙ pairs-cong n (λ q. bitOr (row n r q) (g q)) (λ q. union n (row n r q) (g q)) (λ q h. union-or n (row n r q) (g q) (row-lt n r q) (small q h))
 
     pub and-rows : bitAnd r (pairs n g) ≡ pairs n (λ q. meet n (row n r q) (g q))
     and-rows =
         ap (λ (x : ℕ). bitAnd x (pairs n g)) (pairs-rows r fits) ∙ and-pairs (row n r) g (λ q h. row-lt n r q) small
-        ∙ pairs-cong (λ q. bitAnd (row n r q) (g q)) (λ q. meet n (row n r q) (g q)) (λ q h. meet-and n (row n r q) (g q) (row-lt n r q))
+        ∙ pairs-cong n (λ q. bitAnd (row n r q) (g q)) (λ q. meet n (row n r q) (g q)) (λ q h. meet-and n (row n r q) (g q) (row-lt n r q))
 
   -- `before | (reach & a)`, a in each row
   pub or-and-rows : (before reach a : ℕ) → before < 2 ^ (n * n) → reach < 2 ^ (n * n) → a < 2 ^ n

@@ -13,12 +13,13 @@ use Rattle.bits.specs.Bits.{bit, weight, setOf, any}
 use Rattle.bits.specs.Sets.{meets, movesTo, moved, byRows}
 use Rattle.bits.specs.Pairs.{pair, row, pairs}
 use Rattle.bits.proofs.Sets.{meets-test}
+use Rattle.bits.proofs.Operations.{weighed-lt}
 use Rattle.bits.proofs.Quantifiers.{any-cong}
 use Rattle.bits.proofs.Bits.{setOf-cong}
 use Rattle.bits.proofs.Moved.{moved-lt, bit-moved}
 use Rattle.bits.proofs.Pairs.{row-lt, bit-row, row-pairs}
 use Rattle.automata.specs.Repeated.{turning, leadingInto}
-use Rattle.automata.proofs.Members.{weighed-lt, as-weight, and-shifted-one, gathered-more}
+use Rattle.automata.proofs.Members.{as-weight, and-shifted-one, gathered-more}
 
 -- ---- the states that c pairs with themselves
 

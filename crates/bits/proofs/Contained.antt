@@ -1,11 +1,11 @@
--- Containment on the rows of a set, and the machine's tests of it, over the width. Assumes nothing.
+-- Containment on the rows of a set, and the machine's test of it, over the width. Assumes nothing.
 use mathlib.Core.Bool.{Bool, true, false, not, _&&_, _||_}
 use mathlib.Core.Path.{_≡_, sym, ap, _∙_, subst}
 use Prim.Native.Nat.{ℕ, zero, suc, _+_, _-_, _*_, _/_, _%_, _^_, _<_}
-use native.Mathlib.Nat.{mod-lt, mul-comm, sub-zero, div-add-mod, div-lt-iff-lt-mul, lt-of-le-of-lt, zero-mul, one-mul}
+use native.Mathlib.Nat.{mod-lt, mul-comm, sub-zero, div-add-mod, div-lt-iff-lt-mul, zero-mul, one-mul}
 use native.Mathlib.Omega.{arith}
 use lib.Arith.{digits-lt}
-use lib.Bits.{bitAnd, and-le-l}
+use lib.Bits.{bitAnd}
 use lib.Dec.{eqb}
 use lib.Pow.{pow-pos, ones-lt}
 use Rattle.bits.specs.Bits.{bit, weight, all}
@@ -15,8 +15,8 @@ use Rattle.bits.proofs.Truth.{bool-same, and-left, and-right, and-both,
 use Rattle.bits.proofs.Quantifiers.{all-intro, all-elim}
 use Rattle.bits.proofs.Bits.{bit-zero}
 use Rattle.bits.proofs.Operations.{bit-and, bit-not}
-use Rattle.bits.proofs.Sets.{subset-intro, subset-elim, subset-self, subset-test, subset-apart}
-use Rattle.bits.proofs.Pairs.{bit-row, row-pairs, pairs-lt}
+use Rattle.bits.proofs.Sets.{subset-intro, subset-elim, subset-self, subset-apart}
+use Rattle.bits.proofs.Pairs.{bit-row, row-pairs}
 
 -- ---- the rows of a set
 
@@ -38,12 +38,8 @@ pub fullRow-lt : (n x q : ℕ) → fullRow n x q < 2 ^ n
 unfolding fullRow
 fullRow-lt n x q = full-lt n (bit x q)
 
-pub rowsOf-lt : (n x : ℕ) → rowsOf n x < 2 ^ (n * n)
-unfolding rowsOf fullRow
-rowsOf-lt n x = pairs-lt n (fullRow n x) (λ q h. fullRow-lt n x q)
-
 -- the pairs that start in x
-pub pair-rowsOf : (n x q q′ : ℕ) → q < n → q′ < n → pair n (rowsOf n x) q q′ ≡ bit x q
+pair-rowsOf : (n x q q′ : ℕ) → q < n → q′ < n → pair n (rowsOf n x) q q′ ≡ bit x q
 unfolding rowsOf fullRow
 pair-rowsOf n x q q′ h h′ =
     sym (bit-row n (rowsOf n x) q q′ h′) ∙ ap (λ (y : ℕ). bit y q′) (row-pairs n (fullRow n x) q (λ p l. fullRow-lt n x p) h)
@@ -66,7 +62,7 @@ module _ (n x c d : ℕ) where
 pub containedOn-self : (n x c : ℕ) → containedOn n x c c ≡ true
 containedOn-self n x c = containedOn-intro n x c c (λ q l e. subset-self n (row n c q))
 
--- ---- the tests
+-- ---- the test
 
 place-lt : (n q q′ : ℕ) → q < n → q′ < n → n * q + q′ < n * n
 place-lt n q q′ h h′ = rw (mul-comm n q) (digits-lt h h′)
@@ -102,12 +98,6 @@ contained-bits n x c d =
         sym (bit-row n d q q′ h′)
         ∙ subset-elim n (row n c q) (row n d q) q′ (containedOn-elim n x c d q e h (and-right (pair n c q q′) (bit x q) both)) h′
         (bit-row n c q q′ h′ ∙ and-left (pair n c q q′) (bit x q) both)
-
--- `c & rows & d == c & rows`
-pub contained-mask : (n x c d : ℕ) → c < 2 ^ (n * n)
-    → eqb (bitAnd (bitAnd c (rowsOf n x)) d) (bitAnd c (rowsOf n x)) ≡ containedOn n x c d
-contained-mask n x c d l =
-    subset-test (n * n) (bitAnd c (rowsOf n x)) d (lt-of-le-of-lt (and-le-l c (rowsOf n x)) l) ∙ contained-bits n x c d
 
 -- `c & (rows & !d) == 0`
 pub contained-apart : (n x c d : ℕ) → c < 2 ^ (n * n) → d < 2 ^ (n * n)

@@ -63,7 +63,7 @@ module _ (c : ℕ) (pos : 0 < c) where
   digit-above x k i h l = ap (λ (y : ℕ). y % c) (div-eq-of-lt (lt-of-lt-of-le h (pow-le-pow-right pos l))) ∙ mod-eq-of-lt pos
 
   -- a high part, and the k digits below it
-  pub digit-low : (hi k lo i : ℕ) → lo < c ^ k → i < k → digit c (hi * c ^ k + lo) i ≡ digit c lo i
+  digit-low : (hi k lo i : ℕ) → lo < c ^ k → i < k → digit c (hi * c ^ k + lo) i ≡ digit c lo i
   digit-low hi k lo i l h = sym (digit-mod (hi * c ^ k + lo) k i h) ∙ ap (λ (y : ℕ). digit c y i) (digits-mod hi l)
 
   pub digit-pack : (d : ℕ → ℕ) (n i : ℕ) → ((j : ℕ) → j < n → d j < c) → i < n → digit c (pack c d n) i ≡ d i
@@ -83,7 +83,7 @@ module _ (c : ℕ) (pos : 0 < c) where
           ∙ ap d (sym e)
 
   -- the n low digits of x, packed again
-  pub pack-digits : (x n : ℕ) → pack c (digit c x) n ≡ x % c ^ n
+  pack-digits : (x n : ℕ) → pack c (digit c x) n ≡ x % c ^ n
   unfolding digit pack
   pack-digits x zero = rw pow-zero (sym (lt-one (mod-lt x (zero-lt-suc 0))))
   pack-digits x (suc n) =
@@ -93,6 +93,3 @@ module _ (c : ℕ) (pos : 0 < c) where
   -- a number below c ^ n is known by its digits
   pub pack-is : (d : ℕ → ℕ) (n x : ℕ) → x < c ^ n → ((i : ℕ) → i < n → digit c x i ≡ d i) → x ≡ pack c d n
   pack-is d n x l same = sym (mod-eq-of-lt l) ∙ sym (pack-digits x n) ∙ pack-cong c (digit c x) d n same
-
-  pub digit-ext : (n x y : ℕ) → x < c ^ n → y < c ^ n → ((i : ℕ) → i < n → digit c x i ≡ digit c y i) → x ≡ y
-  digit-ext n x y l m same = pack-is (digit c y) n x l same ∙ pack-digits y n ∙ mod-eq-of-lt m

@@ -1,6 +1,6 @@
--- A stem entry and a period link are read back field by field, and are made of their fields. Assumes nothing.
+-- A stem entry and a period link are read back field by field, and each `|` appends a field. Assumes nothing.
 use mathlib.Core.Path.{_≡_}
-use Prim.Native.Nat.{ℕ, _+_, _*_, _^_, _/_, _%_, _<_}
+use Prim.Native.Nat.{ℕ, _+_, _*_, _^_, _<_}
 use lib.Bits.{bitOr, or-shifted}
 use native.Mathlib.Omega.{arith}
 use Rattle.bits.specs.Fields.{stemEntry, stemTarget, stemState, stemLetter, stemParent, periodLink, linkState, linkLetter, linkParent}
@@ -18,12 +18,6 @@ module _ (target state letter parent : ℕ) (t : target < 256) (s : state < 16) 
   pub stem-parent : parent < 4096 → stemParent (stemEntry target state letter parent) ≡ parent
   stem-parent p = omega arith
 
--- an entry that has no more than its fields is made of them
-pub stem-whole : (e : ℕ) → e < 65536 * 4096 → stemEntry (stemTarget e) (stemState e) (stemLetter e) (stemParent e) ≡ e
-stem-whole e l =
-    let whole : stemParent e ≡ e / 65536 = omega arith in
-    omega arith
-
 module _ (state letter parent : ℕ) (s : state < 16) (l : letter < 16) where
   pub link-state : linkState (periodLink state letter parent) ≡ state
   link-state = omega arith
@@ -33,10 +27,6 @@ module _ (state letter parent : ℕ) (s : state < 16) (l : letter < 16) where
 
   pub link-parent : linkParent (periodLink state letter parent) ≡ parent
   link-parent = omega arith
-
--- so is a link whose bits 8 to 15 are clear
-pub link-whole : (e : ℕ) → e % 65536 < 256 → periodLink (linkState e) (linkLetter e) (linkParent e) ≡ e
-link-whole e l = omega arith
 
 -- `x | b` appends the field b of k bits, where the k low bits of x are clear
 pub or-field : (x a k b : ℕ) → x ≡ a * 2 ^ k → b < 2 ^ k → bitOr x b ≡ x + b

@@ -1,4 +1,4 @@
--- The laws of numbers by their digits, of sets, of sets of pairs, and of packed fields.
+-- The laws of numbers by their digits, of sets, of sets of pairs, and of packed fields; answers that the contracts rule out.
 pub mod Truth
 pub mod Digits
 pub mod Quantifiers
@@ -10,3 +10,5 @@ pub mod Pairs
 pub mod Contained
 pub mod Fields
 pub mod Values
+pub mod Refuses
+pub mod Wrong

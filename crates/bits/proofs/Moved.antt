@@ -11,7 +11,7 @@ use lib.Pow.{pow-pos}
 use Rattle.bits.specs.Bits.{bit, setOf, any}
 use Rattle.bits.specs.Sets.{movesTo, moved, byRows}
 use Rattle.bits.proofs.Truth.{and-left, and-right, and-both}
-use Rattle.bits.proofs.Quantifiers.{any-intro, any-elim, any-cong}
+use Rattle.bits.proofs.Quantifiers.{any-intro, any-elim}
 use Rattle.bits.proofs.Bits.{bit-zero, setOf-lt, bit-setOf, setOf-cong, setOf-is}
 use Rattle.bits.proofs.Operations.{bit-or}
 
@@ -34,14 +34,6 @@ module _ (n : ℕ) (step : ℕ → ℕ → Bool) (x : ℕ) where
   has-moved q′ h e =
       let w = any-elim (λ q. bit x q && step q q′) n (sym (bit-moved q′ h) ∙ e) in
       (w .0, w .1, and-left (bit x (w .0)) (step (w .0) q′) (w .2), and-right (bit x (w .0)) (step (w .0) q′) (w .2))
-
--- steps that agree move alike
-pub moved-cong : (n : ℕ) (step other : ℕ → ℕ → Bool) (x : ℕ) → ((q q′ : ℕ) → q < n → q′ < n → step q q′ ≡ other q q′)
-    → moved n step x ≡ moved n other x
-unfolding moved movesTo
-moved-cong n step other x same =
-    setOf-cong (movesTo step x n) (movesTo other x n) n
-    (λ q′ h. any-cong (λ q. bit x q && step q q′) (λ q. bit x q && other q q′) n (λ q l. ap (λ (b : Bool). bit x q && b) (same q q′ l h)))
 
 -- ---- the loop over the states
 

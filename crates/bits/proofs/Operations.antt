@@ -3,16 +3,17 @@ use mathlib.Core.Bool.{Bool, true, false, not, _&&_, _||_}
 use mathlib.Core.Logic.{⊎-elim}
 use mathlib.Core.Path.{_≡_, refl, sym, ap, ap₂, _∙_}
 use Prim.Native.Nat.{ℕ, zero, suc, _+_, _-_, _*_, _/_, _%_, _^_, _≤_, _<_, zero-le, suc-le-suc}
-use native.Mathlib.Nat.{mod-eq-of-lt, one-mul, pow-suc}
+use native.Mathlib.Nat.{lt-of-le-of-lt, zero-mul, one-mul, pow-suc}
 use native.Mathlib.Omega.{arith}
-use lib.Bits.{bitAnd, bitOr, and-mask, and-shr, or-shr, and-mod, or-mod}
+use lib.Bits.{bitAnd, bitOr, and-le-r, and-mask, and-shr, or-shr, and-mod, or-mod}
 use lib.Dec.{eqb, lit<, eqb·zero-suc}
-use lib.Pow.{pow-lt}
 use borrow.Author.Tests.{eqb-true, eq-eqb, ne-eqb}
+use mir.Syntax.{Width}
+use mir.Val.{Fits, bits}
 use Rattle.bits.specs.Bits.{digit, pack, bit, weight, setOf}
 use Rattle.bits.proofs.Truth.{bool-same}
 use Rattle.bits.proofs.Digits.{lt-or-ge}
-use Rattle.bits.proofs.Bits.{digit-bit, bit-from, bit-shl, bit-shl-below, bit-above, setOf-bits, bit-setOf}
+use Rattle.bits.proofs.Bits.{digit-bit, bit-from, bit-shl, bit-shl-below, bit-above, bit-zero, setOf-bits, bit-setOf}
 
 -- ---- a bit, shifted to the lowest place
 
@@ -57,6 +58,10 @@ bit-and = bit-op bitAnd _&&_ and-shr and-mod and-weights
 pub bit-or : (a b i : ℕ) → bit (bitOr a b) i ≡ (bit a i || bit b i)
 bit-or = bit-op bitOr _||_ or-shr or-mod or-weights
 
+-- `(x & m) as` a type that holds m
+pub mask-fits : {w : Width} (x : ℕ) {m : ℕ} → m < 2 ^ bits w → Fits w (bitAnd x m)
+mask-fits x {m} l = record { fits = lt-of-le-of-lt (and-le-r x m) l }
+
 -- ---- the machine's `!`
 
 -- a set and its complement make up all n bits
@@ -100,6 +105,13 @@ bit-power q i =
         (λ e. let z = eqb-true 0 (i - q) e in eq-eqb q i (omega arith))
         (λ e. let z = eqb-true q i e in eq-eqb 0 (i - q) (omega arith))
 
--- `1 << q`
-pub bit-shifted-one : (n q i : ℕ) → q < n → bit (1 * 2 ^ q % 2 ^ n) i ≡ eqb q i
-bit-shifted-one n q i h = ap (λ (x : ℕ). bit x i) (ap (λ (x : ℕ). x % 2 ^ n) (one-mul (2 ^ q)) ∙ mod-eq-of-lt (pow-lt h)) ∙ bit-power q i
+-- a number weighed by a truth value: itself, or nothing
+pub weighed-lt : (b : Bool) {y m : ℕ} → y < m → weight b * y < m
+unfolding weight
+weighed-lt true {y} l = rw one-mul l
+weighed-lt false {y} l = rw zero-mul (omega arith)
+
+pub bit-weighed : (b : Bool) (y i : ℕ) → bit (weight b * y) i ≡ (b && bit y i)
+unfolding weight
+bit-weighed true y i = ap (λ (x : ℕ). bit x i) (one-mul y)
+bit-weighed false y i = ap (λ (x : ℕ). bit x i) (zero-mul y) ∙ bit-zero i

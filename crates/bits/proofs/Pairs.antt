@@ -8,7 +8,7 @@ use lib.Bits.{bitAnd, and-mask, bitOr, or-shifted-r}
 use lib.Pow.{pow-pos, pow-add, shl-exact}
 use Rattle.bits.specs.Bits.{digit, pack, bit, weight}
 use Rattle.bits.specs.Pairs.{pair, row, pairs}
-use Rattle.bits.proofs.Digits.{pack-lt, digit-lt, digit-pack, digit-ext, pack-is}
+use Rattle.bits.proofs.Digits.{pack-lt, pack-cong, digit-lt, digit-pack, pack-is}
 use Rattle.bits.proofs.Bits.{bit-shr, bit-mod}
 
 module _ (n : ℕ) where
@@ -41,13 +41,13 @@ module _ (n : ℕ) where
   row-pairs f q l h = digit-pack (2 ^ n) (pow-pos n) f n q l h
 
   -- equal rows, equal sets
+  pub pairs-cong : (f g : ℕ → ℕ) → ((q : ℕ) → q < n → f q ≡ g q) → pairs n f ≡ pairs n g
+  unfolding pairs
+  pairs-cong f g same = pack-cong (2 ^ n) f g n same
+
   pub pairs-is : (f : ℕ → ℕ) (c : ℕ) → c < 2 ^ (n * n) → ((q : ℕ) → q < n → row n c q ≡ f q) → c ≡ pairs n f
   unfolding row pairs
   pairs-is f c l same = pack-is (2 ^ n) (pow-pos n) f n c (rw row-weight l) same
-
-  pub pairs-ext : (c d : ℕ) → c < 2 ^ (n * n) → d < 2 ^ (n * n) → ((q : ℕ) → q < n → row n c q ≡ row n d q) → c ≡ d
-  unfolding row
-  pairs-ext c d l m same = digit-ext (2 ^ n) (pow-pos n) n c d (rw row-weight l) (rw row-weight m) same
 
 -- ---- the loop over the rows
 

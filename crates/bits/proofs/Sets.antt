@@ -10,7 +10,7 @@ use borrow.Author.Tests.{eqb-true, eq-eqb, not-true}
 use Rattle.bits.specs.Bits.{bit, any, all}
 use Rattle.bits.specs.Sets.{SetIs, subset, union, meet, meets}
 use Rattle.bits.proofs.Truth.{bool-same, and-left, and-right, and-both, implies, implied}
-use Rattle.bits.proofs.Quantifiers.{any-cong, all-intro, all-elim, all-cong, not-any}
+use Rattle.bits.proofs.Quantifiers.{any-intro, any-elim, any-cong, all-intro, all-elim, all-cong, not-any}
 use Rattle.bits.proofs.Bits.{bit-zero, bit-ext, setOf-is}
 use Rattle.bits.proofs.Operations.{bit-and, bit-or, bit-not}
 
@@ -27,12 +27,17 @@ subset-elim n x y q e l = implies (bit x q) (bit y q) (all-elim (λ q. not (bit 
 pub subset-self : (n x : ℕ) → subset n x x ≡ true
 subset-self n x = subset-intro n x x (λ q l e. e)
 
-pub subset-trans : (n x y z : ℕ) → subset n x y ≡ true → subset n y z ≡ true → subset n x z ≡ true
-subset-trans n x y z e f = subset-intro n x z (λ q l p. subset-elim n y z q f l (subset-elim n x y q e l p))
+-- ---- sets that meet, by a common member
 
-pub subset-both : (n x y : ℕ) → x < 2 ^ n → y < 2 ^ n → subset n x y ≡ true → subset n y x ≡ true → x ≡ y
-subset-both n x y l m e f =
-    bit-ext n x y l m (λ q h. bool-same (bit x q) (bit y q) (subset-elim n x y q e h) (subset-elim n y x q f h))
+pub meets-intro : (n x y q : ℕ) → q < n → bit x q ≡ true → bit y q ≡ true → meets n x y ≡ true
+unfolding meets
+meets-intro n x y q l e f = any-intro (λ q. bit x q && bit y q) n q l (and-both (bit x q) (bit y q) e f)
+
+pub meets-elim : (n x y : ℕ) → meets n x y ≡ true → (q : ℕ) × (q < n) × (bit x q ≡ true) × (bit y q ≡ true)
+unfolding meets
+meets-elim n x y e =
+    let (q, l, g) = any-elim (λ q. bit x q && bit y q) n e in
+    (q, l, and-left (bit x q) (bit y q) g, and-right (bit x q) (bit y q) g)
 
 -- ---- the machine's operations and tests
 
@@ -61,7 +66,7 @@ subset-test n x y l =
     ∙ bool-same (bit x q && bit y q) (bit x q) (and-left (bit x q) (bit y q)) (λ p. and-both (bit x q) (bit y q) p (subset-elim n x y q e h p)))))
 
 -- `x == 0`: no member
-pub empty-test : (n x : ℕ) → x < 2 ^ n → eqb x 0 ≡ all (λ q. not (bit x q)) n
+empty-test : (n x : ℕ) → x < 2 ^ n → eqb x 0 ≡ all (λ q. not (bit x q)) n
 empty-test n x l =
     bool-same (eqb x 0) (all (λ q. not (bit x q)) n)
     (λ e. all-intro (λ q. not (bit x q)) n (λ q h. ap not (ap (λ (y : ℕ). bit y q) (eqb-true x 0 e) ∙ bit-zero q)))
@@ -69,7 +74,7 @@ empty-test n x l =
     (bit-ext n x 0 l (pow-pos n) (λ q h. not-true (bit x q) (all-elim (λ q. not (bit x q)) n q e h) ∙ sym (bit-zero q))))
 
 -- `x != 0`: some member
-pub nonzero-any : (n x : ℕ) → x < 2 ^ n → not (eqb x 0) ≡ any (bit x) n
+nonzero-any : (n x : ℕ) → x < 2 ^ n → not (eqb x 0) ≡ any (bit x) n
 nonzero-any n x l = ap not (empty-test n x l ∙ sym (not-any (bit x) n)) ∙ Bool·not-not (any (bit x) n)
 
 -- `x & y != 0`
@@ -103,8 +108,3 @@ module _ (n : ℕ) {x y : ℕ} {P Q : ℕ → Type 0} (isP : SetIs n x P) (isQ :
   setIs-within e q p =
       let w = isP .has q p in
       isQ .only q (w .0) (subset-elim n x y q e (w .0) (w .1))
-
--- sets of one property are one
-pub setIs-same : (n : ℕ) {x y : ℕ} {P : ℕ → Type 0} → x < 2 ^ n → y < 2 ^ n → SetIs n x P → SetIs n y P → x ≡ y
-setIs-same n {x} {y} l m isP isP′ =
-    subset-both n x y l m (setIs-subset n isP isP′ (λ q p. p)) (setIs-subset n isP′ isP (λ q p. p))

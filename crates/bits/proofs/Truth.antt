@@ -13,16 +13,9 @@ bool-same true b f g = sym (f refl)
 bool-same false true f g = g refl
 bool-same false false f g = refl
 
-pub true-from : (a : Bool) → (a ≡ false → ⊥) → a ≡ true
-true-from true f = refl
-true-from false f = absurd (f refl)
-
 pub false-from : (a : Bool) → (a ≡ true → ⊥) → a ≡ false
 false-from true f = absurd (f refl)
 false-from false f = refl
-
-pub not-from : (a : Bool) → (a ≡ true → ⊥) → not a ≡ true
-not-from a f = ap not (false-from a f)
 
 pub and-left : (a b : Bool) → (a && b) ≡ true → a ≡ true
 and-left true b e = refl

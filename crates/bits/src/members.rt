@@ -1,11 +1,11 @@
-//! Sets of numbers below 8 in a u8, below 16 in a u16, below 64 in a u64: members, subsets, and sets moved by a step.
+//! Sets of numbers below 8 in a u8, below 16 in a u16: members, subsets, and sets moved by a step.
 ghost use mathlib.Core.Path.{_≡_};
 ghost use Prim.Native.Nat.{_<_};
 ghost use Rattle.bits.specs.Bits.{bit};
 ghost use Rattle.bits.specs.Sets.{subset, moved, byRows};
 
 // Is q a member of x? It is if bit q, shifted to the lowest place, is 1.
-pub fn has(x: u8, q: usize) -> bool
+fn has(x: u8, q: usize) -> bool
     requires { ⌜ q < 8 ⌝ }
     ensures { λ r. ⌜ r ≡ bit x q ⌝ }
 {
@@ -23,13 +23,6 @@ pub fn has16(x: u16, q: usize) -> bool
 // Is each member of x one of y? It is if what x shares with y is all of x.
 pub fn within(x: u8, y: u8) -> bool
     ensures { λ r. ⌜ r ≡ subset 8 x y ⌝ }
-{
-    x & y == x
-}
-
-// The same of numbers below 64.
-pub fn within64(x: u64, y: u64) -> bool
-    ensures { λ r. ⌜ r ≡ subset 64 x y ⌝ }
 {
     x & y == x
 }

@@ -4,7 +4,6 @@ use mathlib.Core.Path.{_≡_, refl, sym, ap₂, _∙_, subst}
 use mathlib.Core.Bool.{Bool, _||_}
 use mathlib.Core.List.{List, [], _∷_, map, map-append, List·Memᴰ, List·Memᴰ·head, List·Memᴰ·tail}
 use Prim.Native.Nat.{ℕ, _≤_, _<_}
-use native.Mathlib.Omega.{arith}
 use lib.ListN.{length, length-map}
 use Rattle.growth.specs.Grow.{Outcome, ended, full, entries, covered, table}
 use Rattle.growth.proofs.Entries.{At, Each, at-head, at-tail, at-nil, at-map, each-snoc}
@@ -19,15 +18,6 @@ module _ {E F : Type 0} (f : E → F) where
   pub mapped-entries : (o : Outcome E) → entries (mapped o) ≡ map f (entries o)
   mapped-entries (ended t) = refl
   mapped-entries (full t) = refl
-
-  -- what a growth that is carried over comes from
-  pub mapped-ended : (o : Outcome E) {t : List F} → mapped o ≡ ended t → (s : List E) × (o ≡ ended s) × (t ≡ map f s)
-  mapped-ended (ended s) e = (s, refl, cc)
-  mapped-ended (full s) e = absurd (let z : _≡_ {A = ℕ} 0 1 = cc in omega arith)
-
-  pub mapped-full : (o : Outcome E) {t : List F} → mapped o ≡ full t → (s : List E) × (o ≡ full s) × (t ≡ map f s)
-  mapped-full (ended s) e = absurd (let z : _≡_ {A = ℕ} 0 1 = cc in omega arith)
-  mapped-full (full s) e = (s, refl, cc)
 
 -- f carries the growth by covers, next and first over to that by covers′ and next′
 pub record Carries {E F : Type 0} (f : E → F) (Good : E → Type 0) (covers : E → E → Bool) (next : ℕ → E → List E) (first : List E) (covers′ : F → F → Bool) (next′ : ℕ → F → List F) : Type 0 where

@@ -4,7 +4,6 @@ use mathlib.Core.Bool.{Bool, true, false, _||_, or-false, or-assoc}
 use mathlib.Core.Option.{Option, none, some}
 use mathlib.Core.List.{List, [], _∷_, _++_, append-assoc}
 use Prim.Native.Nat.{ℕ, zero, suc, _+_, _-_, _≤_, _<_}
-use native.Mathlib.Nat.{sub-zero}
 use native.Mathlib.Numerals.{add-one}
 use native.Mathlib.Omega.{arith}
 use lib.ListN.{length, getD, getElem?, take, drop, set, length-append, length-drop, take-append-drop, List·getD-append}
@@ -96,11 +95,6 @@ module _ {E : Type 0} (covers : E → E → Bool) (room : ℕ) where
             → length t ≤ length {A = E} (entries {E = E} (elim m [ none ↦ ended t | some e ↦ onward (offer covers room t (next i e)) (grow covers next room f (suc i)) ]))
         at none h = omega arith
         at (some e) h = h e
-
-    -- it begins with what the first candidates leave
-    pub table-on : (first : List E) → table covers next room first ≡ onward (offer covers room [] first) (grow covers next room (room - 0) 0)
-    unfolding table
-    table-on first = rw sub-zero
 
 -- ---- what the answer says of the outcome
 

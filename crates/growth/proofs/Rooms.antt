@@ -4,7 +4,6 @@ use mathlib.Core.Path.{_≡_, refl, ap}
 use mathlib.Core.Bool.{Bool}
 use mathlib.Core.List.{List, [], _∷_}
 use Prim.Native.Nat.{ℕ, _≤_, _<_}
-use native.Mathlib.Decide.{decLe}
 use native.Mathlib.Omega.{arith}
 use lib.ListN.{length, length-append}
 use Rattle.growth.specs.Grow.{Outcome, ended, full, entries, table}
@@ -68,11 +67,3 @@ module _ {E : Type 0} (covers : E → E → Bool) (next : ℕ → E → List E) 
           let g = table-fits other room f (omega arith) in
           let same : t ≡ s = cc in
           absurd (omega (arith, ap length same))
-
-  -- and one that lacks room lacks one place at least
-  pub table-lacks : (room other : ℕ) {s t : List E} → table covers next other first ≡ ended s → table covers next room first ≡ full t → room < length s
-  table-lacks room other {s} e f = at (decLe (length s) room)
-    where
-      at : Dec (length s ≤ room) → room < length s
-      at (yes l) = let g = table-fits room other e l in absurd (let z : _≡_ {A = ℕ} 0 1 = cc in omega arith)
-      at (no l) = omega arith

@@ -9,3 +9,4 @@ pub mod Judged
 pub mod Loaded
 pub mod Samples
 pub mod Idle
+pub mod Wrong

@@ -9,6 +9,7 @@ use Rattle.bits.specs.Fields.{periodLink, linkState}
 use Rattle.bits.specs.Pairs.{pairs, rowsOf}
 use Rattle.bits.proofs.Truth.{or-left}
 use Rattle.bits.proofs.Bits.{bit-mod, bit-zero}
+use Rattle.bits.proofs.Pairs.{pairs-cong}
 use Rattle.acceptance.specs.Lasso.{Aut, opens}
 use Rattle.acceptance.specs.Contexts.{Context, idle, longer}
 use Rattle.acceptance.proofs.Contexts.{Fits, longer-fits}
@@ -20,7 +21,6 @@ use Rattle.growth.proofs.Carried.{mapped, table-map}
 use Rattle.automata.specs.declared.Head.{Head}
 use Rattle.automata.specs.declared.Pairs8.{Pairs8}
 use Rattle.automata.specs.Loaded.{cell, autOf, ofPairs}
-use Rattle.automata.proofs.Rows.{pairs-cong}
 use Rattle.periods.specs.Periods.{Period, periodCovers, periodFirst, periodNext, periodTable}
 use Rattle.periods.specs.Masks.{covers}
 use Rattle.periods.specs.Candidates.{atState, atLetter, candidates, ofEntry}

@@ -6,7 +6,8 @@ use lib.Bits.{bitAnd}
 use Rattle.bits.specs.Bits.{pack}
 use Rattle.bits.specs.Pairs.{pairs}
 use Rattle.acceptance.specs.Contexts.{idle}
-use Rattle.automata.proofs.Longer.{same-context, idle-through}
+use Rattle.acceptance.proofs.Contexts.{same-context}
+use Rattle.automata.proofs.Longer.{idle-through}
 use Rattle.automata.proofs.eight.idle.Statement.{statement}
 use Rattle.automata.proofs.eight.idle.Tie as tie
 

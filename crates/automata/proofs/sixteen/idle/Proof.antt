@@ -6,9 +6,9 @@ use borrow.Author.Needs.{needs}
 use Rattle.bits.specs.Bits.{bit, weight}
 use Rattle.bits.proofs.Values.{Filled, filled-none, filled-more}
 use Rattle.acceptance.specs.Contexts.{idle}
+use Rattle.acceptance.proofs.Contexts.{same-context}
 use Rattle.automata.proofs.Members.{shifted-one, and-shifted-one}
 use Rattle.automata.proofs.Listed.{listed-filled}
-use Rattle.automata.proofs.Longer.{same-context}
 use Rattle.automata.proofs.sixteen.idle.Statement.{statement}
 use Rattle.automata.proofs.sixteen.idle.Tie as tie
 

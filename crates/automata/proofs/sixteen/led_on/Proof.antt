@@ -10,10 +10,11 @@ use mir.Val.{Fits}
 use Rattle.bits.specs.Bits.{weight}
 use Rattle.bits.specs.Sets.{union}
 use Rattle.bits.specs.Pairs.{pair, row}
+use Rattle.bits.proofs.Operations.{weighed-lt}
 use Rattle.bits.proofs.Values.{Filled, filled-none, filled-more}
 use Rattle.automata.specs.Repeated.{ledOn}
 use Rattle.automata.specs.Loaded.{listed}
-use Rattle.automata.proofs.Members.{weighed-lt, and-shifted-lt}
+use Rattle.automata.proofs.Members.{lowest-times-fits}
 use Rattle.automata.proofs.Listed.{listed-filled, or-listed, times-listed}
 use Rattle.automata.proofs.sixteen.led_on.Statement.{statement}
 use Rattle.automata.proofs.sixteen.led_on.Tie as tie
@@ -46,7 +47,7 @@ shr-out : tie.Need-shr-out Inv-loop μ-loop
 shr-out c = search needs
 
 mul-out-3 : tie.Need-mul-out-3 Inv-loop μ-loop
-mul-out-3 c = record { fits = and-shifted-lt _ (c .before .before .args .p) (c .before .before .fits .y .fits) }
+mul-out-3 c = search (needs, lowest-times-fits (c .before .before .fits .y))
 
 mul-out-4 : tie.Need-mul-out-4 Inv-loop μ-loop
 mul-out-4 c = search needs

@@ -1,8 +1,8 @@
 -- `entries::nibble` meets its contract. Assumes nothing.
 use Prim.Native.Nat.{_/_, _^_}
-use native.Mathlib.Omega.{arith}
 use borrow.Author.Needs.{needs}
 use lib.Bits.{and-mask}
+use Rattle.bits.proofs.Operations.{mask-fits}
 use Rattle.bits.proofs.entries.nibble.Statement.{statement}
 use Rattle.bits.proofs.entries.nibble.Tie as tie
 
@@ -10,7 +10,7 @@ shr-result : tie.Need-shr-result
 shr-result c = search needs
 
 cast-result : tie.Need-cast-result
-cast-result c = omega (arith, and-mask (c .args .e / 2 ^ c .args .place) 4)
+cast-result c = search (needs, mask-fits)
 
 returns : tie.Need-returns
 returns c = and-mask (c .args .e / 2 ^ c .args .place) 4

@@ -1,11 +1,12 @@
 -- `entries::stem_target` meets its contract. Assumes nothing.
-use native.Mathlib.Omega.{arith}
+use borrow.Author.Needs.{needs}
 use lib.Bits.{and-mask}
+use Rattle.bits.proofs.Operations.{mask-fits}
 use Rattle.bits.proofs.entries.stem_target.Statement.{statement}
 use Rattle.bits.proofs.entries.stem_target.Tie as tie
 
 cast-result : tie.Need-cast-result
-cast-result c = omega (arith, and-mask (c .args .entry) 8)
+cast-result c = search (needs, mask-fits)
 
 returns : tie.Need-returns
 returns c = and-mask (c .args .entry) 8

@@ -1,8 +1,6 @@
 -- `rows::row_of` meets its contract. Assumes nothing.
-use Prim.Native.Nat.{_*_, _/_, _^_}
-use native.Mathlib.Omega.{arith}
 use borrow.Author.Needs.{needs}
-use lib.Bits.{and-mask}
+use Rattle.bits.proofs.Operations.{mask-fits}
 use Rattle.bits.proofs.Pairs.{row-shifted}
 use Rattle.bits.proofs.rows.row_of.Statement.{statement}
 use Rattle.bits.proofs.rows.row_of.Tie as tie
@@ -14,7 +12,7 @@ shr-result : tie.Need-shr-result
 shr-result c = search needs
 
 cast-result : tie.Need-cast-result
-cast-result c = omega (arith, and-mask (c .args .c / 2 ^ (8 * c .args .q)) 8)
+cast-result c = search (needs, mask-fits)
 
 returns : tie.Need-returns
 returns c = row-shifted 8 (c .args .c) (c .args .q)

@@ -1,0 +1,21 @@
+-- Wrong answers of `numbers` that its contract rules out, on an input each; those of the entry point stand in `Idle`. Assumes nothing.
+use mathlib.Core.List.{List, [], _∷_}
+use mathlib.Core.Path.{ap}
+use Prim.Native.Nat.{ℕ}
+use native.Mathlib.Omega.{arith}
+use lib.ListN.{getD}
+use Rattle.bits.proofs.Refuses.{Refuses}
+use Rattle.inclusion.specs.declared.Answer.the-variants as says
+use Rattle.inclusion.specs.Answers.{refused, numbersOf}
+use Rattle.inclusion.specs.Samples.{counted}
+use Rattle.inclusion.proofs.numbers.Reads as numbers
+
+-- u and w in each other's place
+pub counts-swapped : Refuses numbers.Post (says.NotIncluded (counted 1 2 3 4) (record { stem = 5; period = 6 }), _) (0 ∷ 0 ∷ 0 ∷ 2 ∷ 1 ∷ 3 ∷ 4 ∷ 5 ∷ 6 ∷ [])
+unfolding numbersOf
+counts-swapped x p = omega (arith, ap (λ (row : List ℕ). getD row 3 0) p)
+
+-- a word's length beside a refusal
+pub length-with-refusal : Refuses numbers.Post (refused 8 0 2 (counted 2 0 0 0), _) (8 ∷ 0 ∷ 2 ∷ 2 ∷ 0 ∷ 0 ∷ 0 ∷ 1 ∷ 0 ∷ [])
+unfolding numbersOf
+length-with-refusal x p = omega (arith, ap (λ (row : List ℕ). getD row 7 0) p)
