@@ -7,12 +7,13 @@ use outside::drawn::pair;
 use outside::lent::{Lengths, Lent};
 use outside::library;
 use outside::random::Random;
-use outside::reference::decide::{decide, Answer};
+use outside::reference::decide::{decide, Answer, LARGEST_P};
 use std::path::{Path, PathBuf};
 use std::process::ExitCode;
 use std::time::Duration;
 
 /// A pair of files and the room that it is run with.
+#[derive(Clone)]
 struct Case {
     name: String,
     model: Vec<u8>,
@@ -38,8 +39,9 @@ fn run() -> Result<(), String> {
     let words: Vec<String> = std::env::args().skip(1).collect();
     let pairs = PathBuf::from(words.first().ok_or("the first word is the folder of pairs")?);
     let cleared = words.iter().any(|word| word == "--cleared");
-    if let Some(unknown) = words[1..].iter().find(|word| *word != "--cleared") {
-        return Err(format!("{unknown} is unknown; option: --cleared"));
+    let growth = words.iter().any(|word| word == "--growth");
+    if let Some(unknown) = words[1..].iter().find(|word| !["--cleared", "--growth"].contains(&word.as_str())) {
+        return Err(format!("{unknown} is unknown; options: --cleared, --growth"));
     }
     equal_on_random_pairs(4_000)?;
     println!("The fast implementation left every lent element as the reference does on 4,000 random pairs, each at three rooms.");
@@ -53,7 +55,13 @@ fn run() -> Result<(), String> {
         "pair", "answer", "u", "w", "p", "t", "candidates", "library µs", "fast µs", "ratio", "library cand/s", "fast cand/s"
     );
     for case in cases(&pairs)? {
-        timed(&case, cleared)?;
+        if !growth {
+            timed(&case, cleared)?;
+        } else if case.period_room == LARGEST_P {
+            for period_room in [LARGEST_P / 4, LARGEST_P / 2, LARGEST_P] {
+                timed(&Case { period_room, ..case.clone() }, cleared)?;
+            }
+        }
     }
     Ok(())
 }

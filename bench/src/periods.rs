@@ -29,7 +29,7 @@ impl Minimal {
     fn covers(&mut self, state: usize, candidate: Context, rows: u64) -> bool {
         let (reach, through) = (rows & !candidate.reach, rows & !candidate.through);
         let chain = &mut self.at[state];
-        let Some(found) = chain.iter().position(|entry| entry.reach & reach | entry.through & through == 0) else {
+        let Some(found) = chain.iter().position(|entry| entry.reach & reach == 0 && entry.through & through == 0) else {
             return false;
         };
         // Nearer to the front each time, so that the ones that cover often are met early.
@@ -40,7 +40,7 @@ impl Minimal {
     fn add(&mut self, state: usize, entry: Context, rows: u64) {
         let entry = Context { reach: entry.reach & rows, through: entry.through & rows };
         let chain = &mut self.at[state];
-        let inside = |old: &Context| entry.reach & !old.reach | entry.through & !old.through == 0;
+        let inside = |old: &Context| entry.reach & !old.reach == 0 && entry.through & !old.through == 0;
         if chain.iter().any(inside) {
             chain.retain(|old| !inside(old));
         }
