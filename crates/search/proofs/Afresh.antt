@@ -51,7 +51,7 @@ module _ (A B : Aut) (room s rows : ℕ) {g : Growth} {links₀ links contexts�
   table-within e = omega (arith, holds (periodTable A B s rows room) h e .1 .count, periods A B s rows .within room)
 
   -- and the lassos can be tested
-  pub judge-ready : {u sets : List ℕ} {t n : ℕ} → Ready room t u links₀ contexts₀ sets → g ≡ Ended n
+  pub judge-ready : {u chains sets : List ℕ} {t n : ℕ} → Ready room t u links₀ contexts₀ chains sets → g ≡ Ended n
       → Few u (take (n - 0) links) sets t × (2 * length (take (n - 0) links) ≤ length (take (2 * n - 0) contexts))
   judge-ready {n = n} ready e =
       let v = entries (periodTable A B s rows room) in

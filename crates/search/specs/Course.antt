@@ -2,7 +2,7 @@
 use mathlib.Core.Path.{_≡_}
 use mathlib.Core.Bool.{Bool, _&&_}
 use mathlib.Core.List.{List, [], _∷_}
-use Prim.Native.Nat.{ℕ, _*_, _^_, max, _≤_}
+use Prim.Native.Nat.{ℕ, _+_, _*_, _^_, max, _≤_}
 use lib.Dec.{eqb}
 use lib.ListN.{length, getD, take}
 use Rattle.bits.specs.Sets.{meets}
@@ -96,11 +96,12 @@ unfoldable pub repeating : List ℕ → List ℕ → ℕ → ℕ → Bool
 repeating u contexts i j = meets 8 (stemTarget (getD u i 0)) (repeated 8 (contextIn contexts j))
 
 -- what a round is given: room, and few tests so far
-pub record Ready (room tests : ℕ) (u links contexts sets : List ℕ) : Type 0 where
+pub record Ready (room tests : ℕ) (u links contexts chains sets : List ℕ) : Type 0 where
   pub stems : length u ≤ 4096
   pub some : 1 ≤ room
   pub short : room ≤ 65535
   pub links-fit : room ≤ length links
   pub contexts-fit : 2 * room ≤ length contexts
+  pub chains-fit : 16 + room ≤ length chains
   pub sets-fit : room ≤ length sets
   pub few : tests ≤ 2 ^ 50

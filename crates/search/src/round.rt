@@ -84,8 +84,7 @@ fn round(
     entry: u32,
     links: &mut [u32],
     contexts: &mut [u64],
-    latest: &mut [u16; 16],
-    earlier: &mut [u16; 65535],
+    chains: &mut [u16],
     sets: &mut [u8],
     room: usize,
     s: u8,
@@ -96,7 +95,7 @@ fn round(
     p: usize,
     t: usize,
 ) -> Rounds
-    requires { ⌜ Ready room t (now stems) (now links) (now contexts) (now sets) ⌝ }
+    requires { ⌜ Ready room t (now stems) (now links) (now contexts) (now chains) (now sets) ⌝ }
     requires { ⌜ (s < 16) × (bit («model_head» .accepting) s ≡ true) ⌝ }
     ensures { λ r. ⌜ Answers (course (autOf (cell (now (model .entry))) «model_head») (autOf (cell (now (rule .entry))) «rule_head») (now (stems .entry)) room (roundAt (autOf (cell (now (model .entry))) «model_head») s entry) p t) r (now (links .exit)) ⌝ }
 {
@@ -107,8 +106,7 @@ fn round(
     let grown = periods::grow(
         links,
         contexts,
-        latest,
-        earlier,
+        chains,
         room,
         s,
         target,
@@ -141,8 +139,7 @@ fn at_state(
     largest: &[u32],
     links: &mut [u32],
     contexts: &mut [u64],
-    latest: &mut [u16; 16],
-    earlier: &mut [u16; 65535],
+    chains: &mut [u16],
     sets: &mut [u8],
     room: usize,
     s: u8,
@@ -153,7 +150,7 @@ fn at_state(
     p_before: usize,
     t_before: usize,
 ) -> Rounds
-    requires { ⌜ Ready room «t_before» (now stems) (now links) (now contexts) (now sets) ⌝ }
+    requires { ⌜ Ready room «t_before» (now stems) (now links) (now contexts) (now chains) (now sets) ⌝ }
     requires { ⌜ (s < 16) × (length (now largest) ≤ 4096) × («t_before» ≤ 2 ^ 48) ⌝ }
     ensures { λ r. ⌜ Answers (course (autOf (cell (now (model .entry))) «model_head») (autOf (cell (now (rule .entry))) «rule_head») (now (stems .entry)) room (roundsAt (autOf (cell (now (model .entry))) «model_head») (now (largest .entry)) s) «p_before» «t_before») r (now (links .exit)) ⌝ }
 {
@@ -169,8 +166,7 @@ fn at_state(
             largest[k],
             links,
             contexts,
-            latest,
-            earlier,
+            chains,
             sets,
             room,
             s,
@@ -201,8 +197,7 @@ fn at_states(
     largest: &[u32],
     links: &mut [u32],
     contexts: &mut [u64],
-    latest: &mut [u16; 16],
-    earlier: &mut [u16; 65535],
+    chains: &mut [u16],
     sets: &mut [u8],
     room: usize,
     model: &[[u16; 16]; 16],
@@ -210,7 +205,7 @@ fn at_states(
     rule: &[[u8; 8]; 16],
     rule_head: Head,
 ) -> Rounds
-    requires { ⌜ Ready room 0 (now stems) (now links) (now contexts) (now sets) ⌝ }
+    requires { ⌜ Ready room 0 (now stems) (now links) (now contexts) (now chains) (now sets) ⌝ }
     requires { ⌜ length (now largest) ≤ 4096 ⌝ }
     ensures { λ r. ⌜ Answers (course (autOf (cell (now (model .entry))) «model_head») (autOf (cell (now (rule .entry))) «rule_head») (now (stems .entry)) room (rounds (autOf (cell (now (model .entry))) «model_head») (autOf (cell (now (rule .entry))) «rule_head») (now (largest .entry))) 0 0) r (now (links .exit)) ⌝ }
 {
@@ -223,8 +218,7 @@ fn at_states(
             largest,
             links,
             contexts,
-            latest,
-            earlier,
+            chains,
             sets,
             room,
             s,
@@ -265,16 +259,14 @@ pub fn all(
     requires { ⌜ (1 ≤ room) × (room ≤ 65535) × (room ≤ length (now links)) × (2 * room ≤ length (now contexts)) ⌝ }
     ensures { λ r. ⌜ Answers (course (autOf (cell (now (model .entry))) «model_head») (autOf (cell (now (rule .entry))) «rule_head») (now (stems .entry)) room (rounds (autOf (cell (now (model .entry))) «model_head») (autOf (cell (now (rule .entry))) «rule_head») (now (largest .entry))) 0 0) r (now (links .exit)) ⌝ }
 {
-    let mut latest = [0u16; 16];
-    let mut earlier = [0u16; 65535];
+    let mut chains = [0u16; 65551];
     let mut sets = [0u8; 65535];
     at_states(
         stems,
         largest,
         links,
         contexts,
-        &mut latest,
-        &mut earlier,
+        &mut chains,
         &mut sets,
         room,
         model,
