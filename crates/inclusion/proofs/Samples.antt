@@ -15,8 +15,8 @@ use Rattle.records.specs.Faults.{again, fault, firstFault, goodRecords, headOf,
 use Rattle.membership.specs.Test.{goodLetters, verdict, testedOn, tested}
 use Rattle.stems.specs.Stems.{targetCovers, stemCovers, stemRoot, stemNext, stemTable}
 use Rattle.periods.specs.Periods.{periodCovers, periodFirst, periodNext, periodTable}
-use Rattle.search.specs.Words.{stemBack, periodBack}
-use Rattle.search.specs.Walk.{search, opening, rounds, pairsOf, accepts, run, walk}
+use Rattle.walk.specs.Words.{stemBack, periodBack}
+use Rattle.walk.specs.Walk.{search, opening, rounds, pairsOf, accepts, run, walk}
 use Rattle.search.specs.Ending.{endingBy, stemShown, periodShown, leftBy}
 use Rattle.inclusion.specs.Answers.{lentEnough, startOf, answerTo, decided, left}
 use Rattle.inclusion.specs.Samples.{samples, pitfalls, Hold}

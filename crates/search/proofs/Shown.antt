@@ -12,17 +12,17 @@ use Rattle.growth.proofs.Steps.{steps-mem}
 use Rattle.periods.specs.Periods.{Period, periodTable}
 use Rattle.periods.specs.Lent.{linksOf}
 use Rattle.periods.proofs.Packed.{period-parents}
-use Rattle.search.specs.declared.round.Rounds.{Rounds}
-use Rattle.search.specs.declared.round.Rounds.the-variants.{Found}
+use Rattle.rounds.specs.declared.Rounds.{Rounds}
+use Rattle.rounds.specs.declared.Rounds.the-variants.{Found}
 use Rattle.search.specs.declared.Ending.{Ending}
-use Rattle.search.specs.Walk.{shown, Search, passed, rejected, search, rounds, pairsOf, accepts}
-use Rattle.search.specs.Words.{stemWord, periodWord}
-use Rattle.search.specs.Chains.{topOf, parentOf, Backward}
-use Rattle.search.specs.Course.{Course, through, lacking, found, along, judged, roundOf, course, finishOf, roundsOf, Answers}
+use Rattle.walk.specs.Walk.{shown, Search, passed, rejected, search, rounds, pairsOf, accepts}
+use Rattle.walk.specs.Words.{stemWord, periodWord}
+use Rattle.spelling.specs.Chains.{topOf, parentOf, Backward}
+use Rattle.rounds.specs.Course.{Course, through, lacking, found, along, judged, roundOf, course, finishOf, roundsOf, Answers}
 use Rattle.search.specs.Contract.{Grown, finish, countsIn, countsBy, verdictBy, Legible, Showable, Shows}
-use Rattle.search.proofs.Runs.{Searched, one-fails, searched}
-use Rattle.search.proofs.Cut.{periods}
-use Rattle.search.proofs.Course.{run-course}
+use Rattle.walk.proofs.Runs.{Searched, one-fails, searched}
+use Rattle.walk.proofs.Cut.{periods}
+use Rattle.rounds.proofs.Course.{run-course}
 
 found-is : (c : Course) {p t i j n : ℕ} → Found p t i j n ≡ roundsOf c → (v : List Period) × (c ≡ found v i j p t) × (length v ≡ n)
 found-is (through p t) e = let z : _≡_ {A = ℕ} 0 1 = cc in absurd (omega arith)
