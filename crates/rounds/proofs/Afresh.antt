@@ -14,9 +14,9 @@ use Rattle.periods.specs.Lent.{linksOf, contextsOf, Leaves}
 use Rattle.periods.proofs.Lent.{contexts-length}
 use Rattle.rounds.specs.declared.Rounds.{Rounds}
 use Rattle.rounds.specs.declared.Rounds.the-variants.{Lacking}
-use Rattle.walk.specs.Walk.{Search, passed, rejected, search}
-use Rattle.rounds.specs.Pairs.{pairsIn, Few}
-use Rattle.rounds.specs.Course.{judged, roundOf, answered, repeating, Answers, Ready}
+use Rattle.walk.specs.Walk.{Search, passed, rejected, search, pairsOf, accepts, searchRound}
+use Rattle.rounds.specs.Pairs.{Few}
+use Rattle.rounds.specs.Course.{judged, roundOf, answered, Answers, Ready}
 use Rattle.walk.proofs.Cut.{periods}
 use Rattle.rounds.proofs.Course.{round-ended, round-full}
 
@@ -69,7 +69,7 @@ module _ (A B : Aut) (room s rows : ℕ) {g : Growth} {links₀ links contexts�
       )
 
   pub ended-ran : (u : List ℕ) (p t : ℕ) {n : ℕ} {r : Rounds} → g ≡ Ended n
-      → r ≡ answered (length (take (n - 0) links)) p (search (repeating u (take (2 * n - 0) contexts)) (pairsIn u s rows (take (n - 0) links)) t)
+      → r ≡ answered (length (take (n - 0) links)) p (search (accepts u (take (2 * n - 0) contexts)) (pairsOf u s rows (take (n - 0) links)) t)
       → Answers (roundOf A B u room (s, rows) p t) r links
   ended-ran u p t {n} {r} e a =
       let v = entries (periodTable A B s rows room) in
@@ -78,9 +78,9 @@ module _ (A B : Aut) (room s rows : ℕ) {g : Growth} {links₀ links contexts�
       let all : length (linksOf v) ≡ n - 0 = omega (arith, h .count) in
       let kept : take (length (linksOf v)) links ≡ linksOf v = ap (λ (k : ℕ). take k links) all ∙ h .links-part in
       rw (round-ended A B u room s rows p t is)
-      (judged-ran v p (search (repeating u (contextsOf v)) (pairsIn u s rows (linksOf v)) t)
-      (a ∙ ap₂ (λ (l c : List ℕ). answered (length l) p (search (repeating u c) (pairsIn u s rows l) t)) (h .links-part) (h .contexts-part)
-      ∙ ap (λ (k : ℕ). answered k p (search (repeating u (contextsOf v)) (pairsIn u s rows (linksOf v)) t)) long)
+      (judged-ran v p (searchRound u (s, rows) v t)
+      (a ∙ ap₂ (λ (l c : List ℕ). answered (length l) p (search (accepts u c) (pairsOf u s rows l) t)) (h .links-part) (h .contexts-part)
+      ∙ ap (λ (k : ℕ). answered k p (searchRound u (s, rows) v t)) long)
       kept)
 
   pub full-ran : (u : List ℕ) (p t : ℕ) {m : ℕ} → g ≡ Full → m ≡ max p room → Answers (roundOf A B u room (s, rows) p t) (Lacking m t) links

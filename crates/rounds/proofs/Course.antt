@@ -1,25 +1,20 @@
--- The rounds in parts, and each round over what the code has: the walk's finish is read off their course. Assumes nothing.
-use mathlib.Core.Path.{_≡_, refl, sym, ap, ap₂, _∙_}
-use mathlib.Core.Bool.{Bool, true, false, _&&_}
+-- The rounds in parts, and the tests of each by the sets that are put: the walk's finish is read off their course. Assumes nothing.
+use mathlib.Core.Path.{_≡_, refl, ap, ap₂}
+use mathlib.Core.Bool.{Bool, true, false}
 use mathlib.Core.List.{List, [], _∷_, _++_, List·Memᴰ, List·Memᴰ·head, List·Memᴰ·tail}
-use Prim.Native.Nat.{ℕ, zero, suc, _+_, _*_, max}
-use native.Mathlib.Omega.{arith}
+use Prim.Native.Nat.{ℕ, suc, max}
 use lib.Dec.{eqb}
-use lib.ListN.{length, getD, length-map}
+use lib.ListN.{length, getD}
 use Rattle.bits.specs.Sets.{meets}
 use Rattle.bits.specs.Fields.{stemTarget, linkState}
 use Rattle.bits.proofs.Truth.{and-right}
 use Rattle.acceptance.specs.Lasso.{Aut}
-use Rattle.acceptance.specs.Contexts.{Context}
 use Rattle.growth.specs.Grow.{Outcome, ended, full}
-use Rattle.growth.specs.Steps.{gather, steps}
-use Rattle.growth.proofs.Steps.{gather-mem, only-mem}
-use Rattle.automata.specs.Repeated.{repeated}
+use Rattle.growth.proofs.Steps.{steps-mem}
 use Rattle.periods.specs.Periods.{Period, periodTable}
-use Rattle.periods.specs.Lent.{linksOf, contextsOf, contextIn}
-use Rattle.walk.specs.Walk.{Search, passed, rejected, search, contextAt, pairsOf, accepts, run}
-use Rattle.rounds.specs.Pairs.{fits, pairAt, pairsAt, pairsIn, meeting, Accepting}
-use Rattle.rounds.specs.Course.{Course, through, lacking, found, along, judged, roundOf, course, finishOf, repeating}
+use Rattle.walk.specs.Walk.{Search, passed, rejected, search, fits, pairsOf, accepts, searchRound, run}
+use Rattle.rounds.specs.Pairs.{meeting, Accepting}
+use Rattle.rounds.specs.Course.{Course, through, lacking, found, along, judged, roundOf, course, finishOf}
 
 -- ---- tests that agree on the pairs
 
@@ -32,44 +27,23 @@ search-same f g (c ∷ cs) t h =
 
 -- the sets that are put are those of the periods that are tested
 pub sets-serve : (u : List ℕ) (s rows : ℕ) (links : List ℕ) {contexts sets : List ℕ} (t : ℕ) → Accepting s (length links) links contexts sets
-    → search (meeting u sets) (pairsIn u s rows links) t ≡ search (repeating u contexts) (pairsIn u s rows links) t
-unfolding meeting repeating pairsIn pairsAt pairAt
-sets-serve u s rows links {contexts} {sets} t known = search-same (meeting u sets) (repeating u contexts) (pairsIn u s rows links) t same
+    → search (meeting u sets) (pairsOf u s rows links) t ≡ search (accepts u contexts) (pairsOf u s rows links) t
+unfolding meeting accepts pairsOf
+sets-serve u s rows links {contexts} {sets} t known = search-same (meeting u sets) (accepts u contexts) (pairsOf u s rows links) t same
   where
-    same : (c : ℕ × ℕ) → List·Memᴰ c (pairsIn u s rows links) → meeting u sets (c .0) (c .1) ≡ repeating u contexts (c .0) (c .1)
+    same : (c : ℕ × ℕ) → List·Memᴰ c (pairsOf u s rows links) → meeting u sets (c .0) (c .1) ≡ accepts u contexts (c .0) (c .1)
     same c m =
-        let (i, _, _, m₁) = gather-mem 0 (length u) (pairsAt u s rows links) m in
-        let (j, _, l, m₂) = gather-mem 0 (length links) (pairAt u s rows links i) m₁ in
-        let (b, e) = only-mem (fits s rows (getD u i 0) && eqb (linkState (getD links j 0)) s) m₂ in
-        rw e (ap (λ (x : ℕ). meets 8 (stemTarget (getD u i 0)) x) (known .set-at j (omega arith) (and-right (fits s rows (getD u i 0)) (eqb (linkState (getD links j 0)) s) b)))
-
--- ---- a table that the lent ones hold
-
-context-same : (v : List Period) (j : ℕ) → contextIn (contextsOf v) j ≡ contextAt v j
-unfolding contextsOf
-context-same [] j = refl
-context-same (e ∷ v) zero = refl
-context-same (e ∷ v) (suc j) =
-    let even : 2 * suc j ≡ suc (suc (2 * j)) = omega arith in
-    let odd : 2 * suc j + 1 ≡ suc (suc (2 * j + 1)) = omega arith in
-    ap₂ (λ (a b : ℕ). record { reach = getD (contextsOf (e ∷ v)) a 0; through = getD (contextsOf (e ∷ v)) b 0 }) even odd ∙ context-same v j
+        let (i, j, _, l, b, e) = steps-mem {E = ℕ × ℕ} (length u) (length links) _ (λ i j. (i, j)) m in
+        rw e (ap (λ (x : ℕ). meets 8 (stemTarget (getD u i 0)) x) (known .set-at j l (and-right (fits s rows (getD u i 0)) (eqb (linkState (getD links j 0)) s) b)))
 
 module _ (A B : Aut) (u : List ℕ) where
-  searched-held : (s rows : ℕ) (v : List Period) (t : ℕ)
-      → search (accepts A B u v) (pairsOf A B u s rows v) t ≡ search (repeating u (contextsOf v)) (pairsIn u s rows (linksOf v)) t
-  unfolding accepts pairsOf steps repeating pairsIn pairsAt pairAt fits
-  searched-held s rows v t =
-      search-same (accepts A B u v) (repeating u (contextsOf v)) (pairsOf A B u s rows v) t
-      (λ c m. ap (λ (x : Context). meets 8 (stemTarget (getD u (c .0) 0)) (repeated 8 x)) (sym (context-same v (c .1))))
-      ∙ ap (λ (n : ℕ). search (repeating u (contextsOf v)) (gather 0 (length u) (λ i. gather 0 n (pairAt u s rows (linksOf v) i))) t) (sym (length-map v (λ (e : Period). e .link)))
-
   -- ---- one round
 
   module _ (room s rows p t : ℕ) where
     pub round-ended : {v : List Period} → periodTable A B s rows room ≡ ended v
-        → roundOf A B u room (s, rows) p t ≡ judged v p (search (repeating u (contextsOf v)) (pairsIn u s rows (linksOf v)) t)
+        → roundOf A B u room (s, rows) p t ≡ judged v p (searchRound u (s, rows) v t)
     unfolding roundOf
-    round-ended {v} e = rw (e, roundOf) (ap (judged v p) (searched-held s rows v t))
+    round-ended e = rw (e, roundOf)
 
     pub round-full : {v : List Period} → periodTable A B s rows room ≡ full v → roundOf A B u room (s, rows) p t ≡ lacking (max p (length v)) t
     unfolding roundOf
@@ -116,13 +90,13 @@ module _ (A B : Aut) (u : List ℕ) where
             → elim o [
               | full v ↦ finishOf u (lacking (max p (length v)) t)
               | ended v ↦
-                  elim (search (accepts A B u v) (pairsOf A B u (c .0) (c .1) v) t) [
+                  elim (searchRound u c v t) [
                     | passed k ↦ run A B u room cs (max p (length v)) k
                     | rejected k i j ↦ finishOf u (found v i j (max p (length v)) k)
                   ]
             ] ≡ finishOf u (along (elim o [
               | full v ↦ lacking (max p (length v)) t
-              | ended v ↦ judged v p (search (accepts A B u v) (pairsOf A B u (c .0) (c .1) v) t)
+              | ended v ↦ judged v p (searchRound u c v t)
             ]) (course A B u room cs))
         at (full v) ih = refl
-        at (ended v) ih = go v (search (accepts A B u v) (pairsOf A B u (c .0) (c .1) v) t) ih
+        at (ended v) ih = go v (searchRound u c v t) ih

@@ -8,13 +8,13 @@ use lib.ListN.{length}
 use Rattle.acceptance.specs.Lasso.{Aut}
 use Rattle.growth.specs.Grow.{Outcome, ended, full, entries}
 use Rattle.growth.specs.Steps.{gather}
-use Rattle.growth.proofs.Steps.{steps-length}
 use Rattle.periods.specs.Periods.{Period, periodTable}
 use Rattle.rounds.specs.declared.Rounds.{Rounds}
 use Rattle.rounds.specs.declared.Rounds.the-variants.{Through}
-use Rattle.walk.specs.Walk.{Search, passed, rejected, search, pairsOf, accepts}
+use Rattle.walk.specs.Walk.{Search, passed, rejected, searchRound}
 use Rattle.rounds.specs.Course.{Course, through, lacking, found, along, judged, roundOf, course, roundsOf, Answers, Ready}
-use Rattle.walk.proofs.Runs.{made, searches, searched-made}
+use Rattle.walk.proofs.Runs.{made}
+use Rattle.walk.proofs.Bounds.{round-tests as one-round}
 use Rattle.walk.proofs.Cut.{periods}
 use Rattle.rounds.proofs.Gathered.{gather-all, gather-next, gather-over}
 use Rattle.rounds.proofs.Course.{course-append, course-one}
@@ -63,30 +63,26 @@ ready-on h l c d s m = record {
 
 -- ---- how many tests
 
-pairs-length : (A B : Aut) (u : List ℕ) (s rows : ℕ) (v : List Period) → length (pairsOf A B u s rows v) ≤ length u * length v
-unfolding pairsOf
-pairs-length A B u s rows v = steps-length {E = ℕ × ℕ} (length u) (length v) _ (λ i j. (i, j))
-
 module _ (A B : Aut) (u : List ℕ) (room : ℕ) (few : length u ≤ 4096) (short : room ≤ 65535) where
   round-tests : (c : ℕ × ℕ) (p t q y : ℕ) → roundOf A B u room c p t ≡ through q y → y ≤ t + 2 ^ 28
   unfolding roundOf
   round-tests c p t q y = at (periodTable A B (c .0) (c .1) room) (periods A B (c .0) (c .1) .within room)
     where
-      go : (v : List Period) (o : Search) → length v ≤ room → made o ≤ t + length (pairsOf A B u (c .0) (c .1) v) → judged v p o ≡ through q y → y ≤ t + 2 ^ 28
+      go : (v : List Period) (o : Search) → length v ≤ room → made o ≤ t + length u * length v → judged v p o ≡ through q y → y ≤ t + 2 ^ 28
       go v (passed k) l m e =
           let same : k ≡ y = cc in
           let l₁ : length u * length v ≤ 4096 * length v = mul-le-mul-right (length v) few in
           let low : length v ≤ 65535 = omega arith in
           let l₂ : 4096 * length v ≤ 4096 * 65535 = mul-le-mul-left 4096 low in
-          omega (arith, pairs-length A B u (c .0) (c .1) v)
+          omega arith
       go v (rejected k i j) l m e = let z : _≡_ {A = ℕ} 0 1 = cc in absurd (omega arith)
 
       at : (o : Outcome Period) → length (entries o) ≤ room → elim o [
         | full v ↦ lacking (max p (length v)) t
-        | ended v ↦ judged v p (search (accepts A B u v) (pairsOf A B u (c .0) (c .1) v) t)
+        | ended v ↦ judged v p (searchRound u c v t)
       ] ≡ through q y → y ≤ t + 2 ^ 28
       at (full v) l e = let z : _≡_ {A = ℕ} 0 1 = cc in absurd (omega arith)
-      at (ended v) l e = go v (search (accepts A B u v) (pairsOf A B u (c .0) (c .1) v) t) l (searched-made (accepts A B u v) (searches (accepts A B u v) (pairsOf A B u (c .0) (c .1) v) t)) e
+      at (ended v) l e = go v (searchRound u c v t) l (one-round u c v t refl (length v) (omega arith)) e
 
   course-tests : (cs : List (ℕ × ℕ)) (p t q y : ℕ) → course A B u room cs p t ≡ through q y → y ≤ t + length cs * 2 ^ 28
   unfolding course

@@ -12,12 +12,12 @@ use lib.Seq.{getD-set-same, getD-set-other}
 use borrow.Author.Count.{below-more}
 use borrow.Author.Tests.{eq-eqb}
 use Rattle.bits.specs.Fields.{linkState}
-use Rattle.growth.specs.Steps.{gather, only}
+use Rattle.growth.specs.Steps.{gather, only, steps}
 use Rattle.automata.specs.Repeated.{repeated}
 use Rattle.periods.specs.Lent.{contextIn}
 use Rattle.rounds.specs.declared.lassos.Found.the-variants.{Passed, Rejected}
-use Rattle.walk.specs.Walk.{Search, passed, rejected, search}
-use Rattle.rounds.specs.Pairs.{foundOf, fits, pairAt, pairsAt, pairsIn, meeting, Accepting, Few}
+use Rattle.walk.specs.Walk.{Search, passed, rejected, search, fits, pairsOf}
+use Rattle.rounds.specs.Pairs.{foundOf, meeting, Accepting, Few}
 use Rattle.rounds.proofs.Gathered.{gather-all, gather-next, gather-past, gather-over, gather-nothing}
 
 -- ---- what the answer says of the search
@@ -60,38 +60,46 @@ module _ (test : ℕ → ℕ → Bool) where
 -- ---- the pairs
 
 module _ (u : List ℕ) (s rows : ℕ) (links : List ℕ) where
+  -- the stem at i with the period at j, where both are at s
+  unfoldable pub pairAt : ℕ → ℕ → List (ℕ × ℕ)
+  pairAt i j = only (fits s rows (getD u i 0) && eqb (linkState (getD links j 0)) s) (i, j)
+
+  -- with every period
+  unfoldable pub pairsAt : ℕ → List (ℕ × ℕ)
+  pairsAt i = gather 0 (length links) (pairAt i)
+
   -- those from the stem at i on
   unfoldable pub pairsFrom : ℕ → List (ℕ × ℕ)
-  pairsFrom i = gather i (length u - i) (pairsAt u s rows links)
+  pairsFrom i = gather i (length u - i) pairsAt
 
   -- those of the stem at i from the period at j on, and those of the later stems
   unfoldable pub pairsOn : ℕ → ℕ → List (ℕ × ℕ)
-  pairsOn i j = gather j (length links - j) (pairAt u s rows links i) ++ pairsFrom (i + 1)
+  pairsOn i j = gather j (length links - j) (pairAt i) ++ pairsFrom (i + 1)
 
-  pub from-all : pairsIn u s rows links ≡ pairsFrom 0
-  unfolding pairsIn pairsFrom
-  from-all = gather-all (pairsAt u s rows links) (length u)
+  pub from-all : pairsOf u s rows links ≡ pairsFrom 0
+  unfolding pairsOf steps pairsFrom pairsAt pairAt
+  from-all = gather-all pairsAt (length u)
 
   pub from-none : (i : ℕ) → length u ≤ i → pairsFrom i ≡ []
   unfolding pairsFrom
-  from-none i l = gather-over (pairsAt u s rows links) (length u) i l
+  from-none i l = gather-over pairsAt (length u) i l
 
   pub from-stem : (i : ℕ) → i < length u → pairsFrom i ≡ pairsOn i 0
   unfolding pairsFrom pairsOn pairsAt
-  from-stem i l = gather-next (pairsAt u s rows links) (length u) i l
-      ∙ ap (λ (cs : List (ℕ × ℕ)). cs ++ gather (i + 1) (length u - (i + 1)) (pairsAt u s rows links)) (gather-all (pairAt u s rows links i) (length links))
+  from-stem i l = gather-next pairsAt (length u) i l
+      ∙ ap (λ (cs : List (ℕ × ℕ)). cs ++ gather (i + 1) (length u - (i + 1)) pairsAt) (gather-all (pairAt i) (length links))
 
   pub from-past : (i : ℕ) → i < length u → fits s rows (getD u i 0) ≡ false → pairsFrom i ≡ pairsFrom (i + 1)
   unfolding pairsFrom pairsAt pairAt
-  from-past i l h = gather-past (pairsAt u s rows links) (length u) i l (gather-nothing (pairAt u s rows links i) 0 (length links) (λ j. rw h))
+  from-past i l h = gather-past pairsAt (length u) i l (gather-nothing (pairAt i) 0 (length links) (λ j. rw h))
 
   pub on-none : (i j : ℕ) → length links ≤ j → pairsOn i j ≡ pairsFrom (i + 1)
   unfolding pairsOn
-  on-none i j l = ap (λ (cs : List (ℕ × ℕ)). cs ++ pairsFrom (i + 1)) (gather-over (pairAt u s rows links i) (length links) j l)
+  on-none i j l = ap (λ (cs : List (ℕ × ℕ)). cs ++ pairsFrom (i + 1)) (gather-over (pairAt i) (length links) j l)
 
   pub on-past : (i j : ℕ) → j < length links → eqb (linkState (getD links j 0)) s ≡ false → pairsOn i j ≡ pairsOn i (j + 1)
   unfolding pairsOn pairAt
-  on-past i j l h = ap (λ (cs : List (ℕ × ℕ)). cs ++ pairsFrom (i + 1)) (gather-past (pairAt u s rows links i) (length links) j l (at (fits s rows (getD u i 0)) h))
+  on-past i j l h = ap (λ (cs : List (ℕ × ℕ)). cs ++ pairsFrom (i + 1)) (gather-past (pairAt i) (length links) j l (at (fits s rows (getD u i 0)) h))
     where
       at : {c : Bool} (b : Bool) → c ≡ false → only {E = ℕ × ℕ} (b && c) (i, j) ≡ []
       at true e = rw e
@@ -100,15 +108,15 @@ module _ (u : List ℕ) (s rows : ℕ) (links : List ℕ) where
   pub on-pair : (i j : ℕ) → j < length links → fits s rows (getD u i 0) ≡ true → eqb (linkState (getD links j 0)) s ≡ true → pairsOn i j ≡ (i, j) ∷ pairsOn i (j + 1)
   unfolding pairsOn pairAt
   on-pair i j l f h =
-      ap (λ (cs : List (ℕ × ℕ)). cs ++ pairsFrom (i + 1)) (gather-next (pairAt u s rows links i) (length links) j l)
-      ∙ ap (λ (b : Bool). (only (b && eqb (linkState (getD links j 0)) s) (i, j) ++ gather (j + 1) (length links - (j + 1)) (pairAt u s rows links i)) ++ pairsFrom (i + 1)) f
-      ∙ ap (λ (b : Bool). (only b (i, j) ++ gather (j + 1) (length links - (j + 1)) (pairAt u s rows links i)) ++ pairsFrom (i + 1)) h
+      ap (λ (cs : List (ℕ × ℕ)). cs ++ pairsFrom (i + 1)) (gather-next (pairAt i) (length links) j l)
+      ∙ ap (λ (b : Bool). (only (b && eqb (linkState (getD links j 0)) s) (i, j) ++ gather (j + 1) (length links - (j + 1)) (pairAt i)) ++ pairsFrom (i + 1)) f
+      ∙ ap (λ (b : Bool). (only b (i, j) ++ gather (j + 1) (length links - (j + 1)) (pairAt i)) ++ pairsFrom (i + 1)) h
 
 -- ---- the loops: the pairs that are left give what all give
 
 module _ (u sets : List ℕ) (s rows : ℕ) (links : List ℕ) (before : ℕ) where
   pub record Left (cs : List (ℕ × ℕ)) (t : ℕ) : Type 0 where
-    pub gives : search (meeting u sets) cs t ≡ search (meeting u sets) (pairsIn u s rows links) before
+    pub gives : search (meeting u sets) cs t ≡ search (meeting u sets) (pairsOf u s rows links) before
 
   same-left : {cs ds : List (ℕ × ℕ)} {t : ℕ} → cs ≡ ds → Left cs t → Left ds t
   same-left {t = t} e h = record { gives = ap (λ (bs : List (ℕ × ℕ)). search (meeting u sets) bs t) (sym e) ∙ h .gives }
@@ -128,7 +136,7 @@ module _ (u sets : List ℕ) (s rows : ℕ) (links : List ℕ) (before : ℕ) wh
   pub leave : (i j : ℕ) {t : ℕ} → length links ≤ j → Left (pairsOn u s rows links i j) t → Left (pairsFrom u s rows links (i + 1)) t
   leave i j l = same-left (on-none u s rows links i j l)
 
-  pub finish : (i : ℕ) {t : ℕ} → length u ≤ i → Left (pairsFrom u s rows links i) t → Passed t ≡ foundOf (search (meeting u sets) (pairsIn u s rows links) before)
+  pub finish : (i : ℕ) {t : ℕ} → length u ≤ i → Left (pairsFrom u s rows links i) t → Passed t ≡ foundOf (search (meeting u sets) (pairsOf u s rows links) before)
   finish i {t} l h = ap foundOf (sym (search-none (meeting u sets) t) ∙ same-left (from-none u s rows links i l) h .gives)
 
   module _ (i j : ℕ) {t : ℕ} (l : j < length links) (f : fits s rows (getD u i 0) ≡ true) (e : linkState (getD links j 0) ≡ s) (h : Left (pairsOn u s rows links i j) t) where
@@ -138,7 +146,7 @@ module _ (u sets : List ℕ) (s rows : ℕ) (links : List ℕ) (before : ℕ) wh
     pub tested : meeting u sets i j ≡ true → Left (pairsOn u s rows links i (j + 1)) (t + 1)
     tested m = record { gives = sym (search-pass (meeting u sets) i j (pairsOn u s rows links i (j + 1)) t m) ∙ at-pair .gives }
 
-    pub rejects : meeting u sets i j ≡ false → Rejected (t + 1) i j ≡ foundOf (search (meeting u sets) (pairsIn u s rows links) before)
+    pub rejects : meeting u sets i j ≡ false → Rejected (t + 1) i j ≡ foundOf (search (meeting u sets) (pairsOf u s rows links) before)
     rejects m = ap foundOf (sym (search-fail (meeting u sets) i j (pairsOn u s rows links i (j + 1)) t m) ∙ at-pair .gives)
 
 -- ---- how many there are

@@ -1,22 +1,20 @@
 -- The rounds as the code goes through them: what they give before the words are read off the tables, and what is left in the links. Assumes nothing.
 use mathlib.Core.Path.{_≡_}
-use mathlib.Core.Bool.{Bool, _&&_}
+use mathlib.Core.Bool.{_&&_}
 use mathlib.Core.List.{List, [], _∷_}
 use Prim.Native.Nat.{ℕ, _+_, _*_, _^_, max, _≤_}
 use lib.Dec.{eqb}
 use lib.ListN.{length, getD, take}
-use Rattle.bits.specs.Sets.{meets}
 use Rattle.bits.specs.Fields.{stemState, stemTarget}
 use Rattle.acceptance.specs.Lasso.{Aut}
 use Rattle.growth.specs.Grow.{ended, full}
 use Rattle.growth.specs.Steps.{gather, only}
-use Rattle.automata.specs.Repeated.{repeated}
 use Rattle.periods.specs.Periods.{Period, periodTable}
-use Rattle.periods.specs.Lent.{linksOf, contextIn}
+use Rattle.periods.specs.Lent.{linksOf}
 use Rattle.rounds.specs.declared.Rounds.{Rounds}
 use Rattle.rounds.specs.declared.Rounds.the-variants.{Through, Lacking, Found}
 use Rattle.walk.specs.Words.{stemWord, periodWord}
-use Rattle.walk.specs.Walk.{included, shown, periodsFull, Finish, Search, passed, rejected, search, opening, pairsOf, accepts}
+use Rattle.walk.specs.Walk.{included, shown, periodsFull, Finish, Search, passed, rejected, searchRound, opening}
 
 -- no lasso was rejected; a period table lacks room; or the lasso of the stem i and the period j of the table v was. With the counts so far: the most
 -- entries that a period table had, and the tests made.
@@ -42,7 +40,7 @@ module _ (A B : Aut) (u : List ℕ) (room : ℕ) where
   roundOf c p t =
       elim (periodTable A B (c .0) (c .1) room) [
         | full v ↦ lacking (max p (length v)) t
-        | ended v ↦ judged v p (search (accepts A B u v) (pairsOf A B u (c .0) (c .1) v) t)
+        | ended v ↦ judged v p (searchRound u c v t)
       ]
 
   unfoldable pub course : List (ℕ × ℕ) → ℕ → ℕ → Course
@@ -89,11 +87,6 @@ roundFor A w s k = roundAt A s (getD w k 0)
 -- for all of W
 unfoldable pub roundsAt : Aut → List ℕ → ℕ → List (ℕ × ℕ)
 roundsAt A w s = gather 0 (length w) (roundFor A w s)
-
--- ---- one test over what the code has
-
-unfoldable pub repeating : List ℕ → List ℕ → ℕ → ℕ → Bool
-repeating u contexts i j = meets 8 (stemTarget (getD u i 0)) (repeated 8 (contextIn contexts j))
 
 -- what a round is given: room, and few tests so far
 pub record Ready (room tests : ℕ) (u links contexts chains sets : List ℕ) : Type 0 where

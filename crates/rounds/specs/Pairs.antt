@@ -1,14 +1,13 @@
 -- The search of one round over what the code has: the stems, the links, and for each link at s the set from which its period is accepted.
 -- Assumes nothing.
 use mathlib.Core.Path.{_≡_}
-use mathlib.Core.Bool.{Bool, true, _&&_}
+use mathlib.Core.Bool.{Bool, true}
 use mathlib.Core.List.{List}
 use Prim.Native.Nat.{ℕ, _^_, _≤_, _<_}
 use lib.Dec.{eqb}
 use lib.ListN.{length, getD}
-use Rattle.bits.specs.Sets.{subset, meets}
-use Rattle.bits.specs.Fields.{stemState, stemTarget, linkState}
-use Rattle.growth.specs.Steps.{gather, only}
+use Rattle.bits.specs.Sets.{meets}
+use Rattle.bits.specs.Fields.{stemTarget, linkState}
 use Rattle.automata.specs.Repeated.{repeated}
 use Rattle.periods.specs.Lent.{contextIn}
 use Rattle.rounds.specs.declared.lassos.Found.{Found}
@@ -18,21 +17,6 @@ use Rattle.walk.specs.Walk.{Search, passed, rejected}
 abbrev pub foundOf : Search → Found
 foundOf (passed t) = Passed t
 foundOf (rejected t i j) = Rejected t i j
-
--- a stem at s, with target inside the rows
-unfoldable pub fits : (s rows entry : ℕ) → Bool
-fits s rows e = eqb (stemState e) s && subset 8 (stemTarget e) rows
-
--- the stem at i with the period at j, where both are at s
-unfoldable pub pairAt : List ℕ → (s rows : ℕ) → List ℕ → ℕ → ℕ → List (ℕ × ℕ)
-pairAt u s rows links i j = only (fits s rows (getD u i 0) && eqb (linkState (getD links j 0)) s) (i, j)
-
--- with every period
-unfoldable pub pairsAt : List ℕ → (s rows : ℕ) → List ℕ → ℕ → List (ℕ × ℕ)
-pairsAt u s rows links i = gather 0 (length links) (pairAt u s rows links i)
-
-unfoldable pub pairsIn : List ℕ → (s rows : ℕ) → List ℕ → List (ℕ × ℕ)
-pairsIn u s rows links = gather 0 (length u) (pairsAt u s rows links)
 
 -- one test: does the stem's target meet the set of the period?
 unfoldable pub meeting : List ℕ → List ℕ → ℕ → ℕ → Bool

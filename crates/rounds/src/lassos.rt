@@ -5,8 +5,8 @@ ghost use Prim.Native.Nat.{_+_, _*_, _<_, _≤_};
 ghost use lib.ListN.{length};
 ghost use Rattle.bits.specs.Sets.{meets};
 ghost use Rattle.bits.specs.Fields.{stemTarget};
-ghost use Rattle.walk.specs.Walk.{search};
-ghost use Rattle.rounds.specs.Pairs.{foundOf, fits, pairsIn, meeting, Accepting, Few};
+ghost use Rattle.walk.specs.Walk.{search, fits, pairsOf};
+ghost use Rattle.rounds.specs.Pairs.{foundOf, meeting, Accepting, Few};
 use automata::Pairs8;
 use automata::eight;
 use bits::entries;
@@ -69,7 +69,7 @@ fn accepted(entry: u32, set: u8) -> bool
 // Tests the pairs in order, and leaves both loops at the first rejected one.
 pub fn search(stems: &[u32], links: &[u32], sets: &[u8], s: u8, target: u8, before: usize) -> Found
     requires { ⌜ Few (now stems) (now links) (now sets) before ⌝ }
-    ensures { λ r. ⌜ r ≡ foundOf (search (meeting (now (stems .entry)) (now (sets .entry))) (pairsIn (now (stems .entry)) s target (now (links .entry))) before) ⌝ }
+    ensures { λ r. ⌜ r ≡ foundOf (search (meeting (now (stems .entry)) (now (sets .entry))) (pairsOf (now (stems .entry)) s target (now (links .entry))) before) ⌝ }
 {
     let mut tests = before;
     let mut u = 0;

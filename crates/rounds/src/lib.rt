@@ -6,9 +6,9 @@ ghost use Prim.Native.Nat.{_*_, _^_, max, _<_, _≤_};
 ghost use lib.ListN.{length};
 ghost use Rattle.bits.specs.Bits.{bit};
 ghost use Rattle.automata.specs.Loaded.{cell, autOf};
-ghost use Rattle.walk.specs.Walk.{search, rounds};
-ghost use Rattle.rounds.specs.Pairs.{pairsIn, Few};
-ghost use Rattle.rounds.specs.Course.{course, answered, repeating, roundAt, roundsAt, Answers, Ready};
+ghost use Rattle.walk.specs.Walk.{search, pairsOf, accepts, rounds};
+ghost use Rattle.rounds.specs.Pairs.{Few};
+ghost use Rattle.rounds.specs.Course.{course, answered, roundAt, roundsAt, Answers, Ready};
 use automata::Head;
 use bits::entries;
 use bits::members;
@@ -58,7 +58,7 @@ fn judge(
     requires { ⌜ Few (now stems) (now links) (now sets) t ⌝ }
     requires { ⌜ 2 * length (now links) ≤ length (now contexts) ⌝ }
     ensures { λ r. ⌜ r ≡ answered (length (now (links .entry))) before
-        (search (repeating (now (stems .entry)) (now (contexts .entry))) (pairsIn (now (stems .entry)) s target (now (links .entry))) t) ⌝ }
+        (search (accepts (now (stems .entry)) (now (contexts .entry))) (pairsOf (now (stems .entry)) s target (now (links .entry))) t) ⌝ }
 {
     lassos::put_sets(links, contexts, s, sets);
     let size = links.len();

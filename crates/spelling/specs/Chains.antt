@@ -1,33 +1,14 @@
--- The chain of parents of an entry, of the links or of the stems: where it ends, the letters along it, and what a word that is written out leaves.
--- Assumes nothing.
+-- What the words of a table can be read back by, and what a word that is written out leaves. Assumes nothing.
 use mathlib.Core.Path.{_≡_}
 use mathlib.Core.Logic.{_⊎_}
-use mathlib.Core.Bool.{Bool, true, false}
+use mathlib.Core.Bool.{Bool, false}
 use mathlib.Core.List.{List}
 use Prim.Native.Nat.{ℕ, _≤_, _<_}
 use lib.Dec.{eqb}
 use lib.ListN.{length, getD}
-use Rattle.bits.specs.Fields.{stemLetter, stemParent, linkLetter, linkParent}
 use Rattle.acceptance.specs.Lasso.{Word}
 use Rattle.growth.specs.Lent.{over}
-use Rattle.walk.specs.Words.{stemWord, periodWord}
-
--- the parent at which a word begins
-abbrev pub topOf : (links : Bool) → ℕ
-topOf true = 65535
-topOf false = 0
-
-abbrev pub parentOf : (links : Bool) → ℕ → ℕ
-parentOf true e = linkParent e
-parentOf false e = stemParent e
-
-abbrev pub letterOf : (links : Bool) → ℕ → ℕ
-letterOf true e = linkLetter e
-letterOf false e = stemLetter e
-
-abbrev pub wordOf : (links : Bool) → List ℕ → ℕ → Word
-wordOf true t i = periodWord t i
-wordOf false t i = stemWord t i
+use Rattle.walk.specs.Words.{topOf, parentOf}
 
 -- parents come before their children
 pub record Backward (links : Bool) (t : List ℕ) : Type 0 where

@@ -7,9 +7,8 @@ use Prim.Native.Nat.{ℕ, _+_, _*_, _^_, _≤_, max}
 use native.Mathlib.Nat.{le-refl, le-trans, mul-le-mul, suc-mul, mul-assoc, mul-comm}
 use native.Mathlib.Omega.{arith}
 use borrow.Author.Tests.{eqb-true}
-use lib.ListN.{length, getD}
+use lib.ListN.{length, getD, length-map}
 use lib.Dec.{eqb}
-use Rattle.bits.specs.Sets.{subset}
 use Rattle.bits.specs.Fields.{stemState, stemTarget, linkState}
 use Rattle.bits.proofs.Truth.{and-right}
 use Rattle.acceptance.specs.Lasso.{Aut}
@@ -21,8 +20,8 @@ use Rattle.growth.proofs.Steps.{steps-mem, steps-length, column-length}
 use Rattle.stems.proofs.Packed.{stem-bound, stem-enough}
 use Rattle.periods.specs.Periods.{Period, periodTable}
 use Rattle.periods.proofs.Packed.{period-bound, period-bound-all, period-enough}
-use Rattle.periods.specs.Lent.{linksOf}
-use Rattle.walk.specs.Walk.{Finish, Walked, Search, search, opening, rounds, pairsOf, accepts, walk}
+use Rattle.periods.specs.Lent.{linksOf, contextsOf}
+use Rattle.walk.specs.Walk.{Finish, Walked, Search, fits, searchRound, opening, rounds, pairsOf, accepts, walk}
 use Rattle.walk.specs.Room.{decided, Bounds}
 use Rattle.walk.proofs.Runs.{made, searched, searched-made, Ran, done, lacking, going, found, Walks, u-full, w-full, ran, walks}
 use Rattle.walk.proofs.Rounds.{tableW, tableV, round-of, round-reached, round-rows}
@@ -30,15 +29,15 @@ use Rattle.walk.proofs.Rounds.{tableW, tableV, round-of, round-reached,
 -- ---- t ≤ u · w · p
 
 -- one round makes at most u · p tests
-round-tests : (A B : Aut) (u : List ℕ) (c : ℕ × ℕ) (v : List Period) (t : ℕ) {o : Search} → search (accepts A B u v) (pairsOf A B u (c .0) (c .1) v) t ≡ o → (p : ℕ) → length v ≤ p
-    → made o ≤ t + length u * p
+pub round-tests : (u : List ℕ) (c : ℕ × ℕ) (v : List Period) (t : ℕ) {o : Search} → searchRound u c v t ≡ o → (p : ℕ) → length v ≤ p → made o ≤ t + length u * p
 unfolding pairsOf
-round-tests A B u c v t e p l =
+round-tests u c v t e p l =
+    let low : length (linksOf v) ≤ p = omega (arith, length-map v (λ (q : Period). q .link)) in
     omega (
       arith,
-      searched-made _ (searched (accepts A B u v) (pairsOf A B u (c .0) (c .1) v) t e),
-      steps-length {E = ℕ × ℕ} (length u) (length v) (λ i j. (eqb (stemState (getD u i 0)) (c .0) && subset 8 (stemTarget (getD u i 0)) (c .1)) && eqb (linkState (getD (linksOf v) j 0)) (c .0)) (λ i j. (i, j)),
-      mul-le-mul (le-refl (length u)) l,
+      searched-made _ (searched (accepts u (contextsOf v)) (pairsOf u (c .0) (c .1) (linksOf v)) t e),
+      steps-length {E = ℕ × ℕ} (length u) (length (linksOf v)) (λ i j. fits (c .0) (c .1) (getD u i 0) && eqb (linkState (getD (linksOf v) j 0)) (c .0)) (λ i j. (i, j)),
+      mul-le-mul (le-refl (length u)) low,
     )
 
 module _ {A B : Aut} {u : List ℕ} where
@@ -52,9 +51,9 @@ module _ {A B : Aut} {u : List ℕ} where
   ran-tests done = omega arith
   ran-tests (lacking v e) = omega arith
   ran-tests (going {c = c} {cs = cs} {t = t} {o = o} v e s r) =
-      omega (arith, ran-tests r, round-tests A B u c v t s (o .periods) (omega (arith, ran-periods r)), suc-mul (length cs) (length u * o .periods))
+      omega (arith, ran-tests r, round-tests u c v t s (o .periods) (omega (arith, ran-periods r)), suc-mul (length cs) (length u * o .periods))
   ran-tests (found {c = c} {cs = cs} {p = p} {t = t} v e s) =
-      omega (arith, round-tests A B u c v t s (max p (length v)) (omega arith), suc-mul (length cs) (length u * max p (length v)))
+      omega (arith, round-tests u c v t s (max p (length v)) (omega arith), suc-mul (length cs) (length u * max p (length v)))
 
 -- each entry of W is at one state
 rounds-length : (A B : Aut) (w : List ℕ) → length (rounds A B w) ≤ length w

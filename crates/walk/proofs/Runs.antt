@@ -11,7 +11,7 @@ use Rattle.stems.specs.Stems.{stemTable}
 use Rattle.periods.specs.Periods.{Period, periodTable}
 use Rattle.walk.specs.Words.{stemWord, periodWord}
 use Rattle.periods.specs.Lent.{linksOf}
-use Rattle.walk.specs.Walk.{included, shown, stemsFull, periodsFull, Finish, Walked, Search, passed, rejected, search, rounds, pairsOf, accepts, run, walk}
+use Rattle.walk.specs.Walk.{included, shown, stemsFull, periodsFull, Finish, Walked, Search, passed, rejected, search, rounds, searchRound, run, walk}
 use Rattle.walk.specs.Room.{decided}
 
 -- ---- the tests of one round
@@ -59,9 +59,9 @@ module _ (A B : Aut) (u : List ℕ) where
     lacking : {c : ℕ × ℕ} {cs : List (ℕ × ℕ)} {p t : ℕ} (v : List Period) → periodTable A B (c .0) (c .1) room ≡ full v
         → Ran room (c ∷ cs) p t (record { verdict = periodsFull; periods = max p (length v); tests = t })
     going : {c : ℕ × ℕ} {cs : List (ℕ × ℕ)} {p t k : ℕ} {o : Finish} (v : List Period) → periodTable A B (c .0) (c .1) room ≡ ended v
-        → search (accepts A B u v) (pairsOf A B u (c .0) (c .1) v) t ≡ passed k → Ran room cs (max p (length v)) k o → Ran room (c ∷ cs) p t o
+        → searchRound u c v t ≡ passed k → Ran room cs (max p (length v)) k o → Ran room (c ∷ cs) p t o
     found : {c : ℕ × ℕ} {cs : List (ℕ × ℕ)} {p t k i j : ℕ} (v : List Period) → periodTable A B (c .0) (c .1) room ≡ ended v
-        → search (accepts A B u v) (pairsOf A B u (c .0) (c .1) v) t ≡ rejected k i j
+        → searchRound u c v t ≡ rejected k i j
         → Ran room (c ∷ cs) p t (record { verdict = shown (stemWord u i) (periodWord (linksOf v) j); periods = max p (length v); tests = k })
 
   pub runs : (room : ℕ) (cs : List (ℕ × ℕ)) (p t : ℕ) → Ran room cs p t (run A B u room cs p t)
@@ -69,7 +69,7 @@ module _ (A B : Aut) (u : List ℕ) where
   runs room [] p t = done
   runs room (c ∷ cs) p t = at (periodTable A B (c .0) (c .1) room) refl (λ p t. runs room cs p t)
     where
-      go : (v : List Period) (o : Search) → periodTable A B (c .0) (c .1) room ≡ ended v → search (accepts A B u v) (pairsOf A B u (c .0) (c .1) v) t ≡ o
+      go : (v : List Period) (o : Search) → periodTable A B (c .0) (c .1) room ≡ ended v → searchRound u c v t ≡ o
           → ((p t : ℕ) → Ran room cs p t (run A B u room cs p t))
           → Ran room (c ∷ cs) p t (elim o [
             | passed k ↦ run A B u room cs (max p (length v)) k
@@ -82,13 +82,13 @@ module _ (A B : Aut) (u : List ℕ) where
           → Ran room (c ∷ cs) p t (elim o [
             | full v ↦ record { verdict = periodsFull; periods = max p (length v); tests = t }
             | ended v ↦
-                elim (search (accepts A B u v) (pairsOf A B u (c .0) (c .1) v) t) [
+                elim (searchRound u c v t) [
                   | passed k ↦ run A B u room cs (max p (length v)) k
                   | rejected k i j ↦ record { verdict = shown (stemWord u i) (periodWord (linksOf v) j); periods = max p (length v); tests = k }
                 ]
           ])
       at (full v) e ih = lacking v e
-      at (ended v) e ih = go v (search (accepts A B u v) (pairsOf A B u (c .0) (c .1) v) t) e refl ih
+      at (ended v) e ih = go v (searchRound u c v t) e refl ih
 
 -- the relation is the function
 pub run-is : {A B : Aut} {u : List ℕ} {room : ℕ} {cs : List (ℕ × ℕ)} {p t : ℕ} {o : Finish} → Ran A B u room cs p t o → run A B u room cs p t ≡ o

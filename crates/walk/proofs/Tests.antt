@@ -1,11 +1,12 @@
 -- The pairs that the walk tests are the lassos of the argument, and its test of a pair is acceptance by B. Assumes nothing.
-use mathlib.Core.Path.{_≡_, refl, sym, _∙_, subst}
+use mathlib.Core.Path.{_≡_, refl, sym, ap₂, _∙_, subst}
 use mathlib.Core.Logic.{_↔_}
 use mathlib.Core.Bool.{Bool, true, false, _&&_}
-use mathlib.Core.List.{List·Memᴰ}
-use Prim.Native.Nat.{ℕ, _≤_, _<_}
+use mathlib.Core.List.{List, [], _∷_, map, List·Memᴰ}
+use Prim.Native.Nat.{ℕ, zero, suc, _+_, _*_, _≤_, _<_}
+use native.Mathlib.Omega.{arith}
 use borrow.Author.Tests.{eqb-true, eq-eqb}
-use lib.ListN.{length, getD}
+use lib.ListN.{length, getD, length-map}
 use lib.Dec.{eqb}
 use Rattle.bits.specs.Sets.{subset, meets}
 use Rattle.bits.specs.Fields.{stemState, stemTarget, linkState}
@@ -24,17 +25,28 @@ use Rattle.automata.proofs.Accepting.{accepted}
 use Rattle.stems.specs.Stems.{targetCovers}
 use Rattle.stems.proofs.Packed as stems
 use Rattle.stems.proofs.Packed.{stemEntries}
+use Rattle.periods.specs.Periods.{Period}
 use Rattle.periods.proofs.Packed as periods
 use Rattle.periods.proofs.Packed.{periodEntries, linkAt}
 use Rattle.walk.specs.Words.{stemWord, periodWord}
-use Rattle.periods.specs.Lent.{linksOf}
-use Rattle.walk.specs.Walk.{rounds, pairsOf, accepts}
+use Rattle.periods.specs.Lent.{linksOf, contextsOf, contextIn}
+use Rattle.walk.specs.Walk.{rounds, fits, pairsOf, accepts}
 use Rattle.walk.proofs.Reading.{stem-word, period-word}
 use Rattle.walk.proofs.Rounds.{tableU, tableW, tableV, round-mem, round-rows}
 
 -- a pair that is made of the numbers below two bounds where a test allows it
 pair-of : {m n : ℕ} (test : ℕ → ℕ → Bool) {c : ℕ × ℕ} → List·Memᴰ c (steps m n test (λ i j. (i, j))) → (c .0 < m) × (c .1 < n) × (test (c .0) (c .1) ≡ true)
 pair-of {m} {n} test h = let (i, j, l, k, t, same) = steps-mem m n test (λ i j. (i, j)) h in rw same (l, k, t)
+
+-- the context at j, as it is found among all and among the numbers of all
+context-held : (v : List Period) (j : ℕ) → contextIn (contextsOf v) j ≡ getD (map (λ (e : Period). e .context) v) j (record { reach = 0; through = 0 })
+unfolding contextsOf
+context-held [] j = refl
+context-held (e ∷ v) zero = refl
+context-held (e ∷ v) (suc j) =
+    let even : 2 * suc j ≡ suc (suc (2 * j)) = omega arith in
+    let odd : 2 * suc j + 1 ≡ suc (suc (2 * j + 1)) = omega arith in
+    ap₂ (λ (a b : ℕ). record { reach = getD (contextsOf (e ∷ v)) a 0; through = getD (contextsOf (e ∷ v)) b 0 }) even odd ∙ context-held v j
 
 module _ {A B : Aut} (bound : Bounded 16 16 A) (small : Small 8 B) (S : ℕ) where
   module _ (P s rows : ℕ) where
@@ -52,22 +64,23 @@ module _ {A B : Aut} (bound : Bounded 16 16 A) (small : Small 8 B) (S : ℕ) whe
 
     -- the pair of an entry of U and one of the period table
     module _ {i j : ℕ} {d : Node ℕ} {e : Node Context} (a : At (stemEntries A B false S) i d) (b : At (periodEntries A B s rows P) j e) where
-      pub pair-mem : d .state ≡ s → subset 8 (d .load) rows ≡ true → e .state ≡ s → List·Memᴰ (i, j) (pairsOf A B (tableU A B S) s rows (tableV A B P s rows))
-      unfolding pairsOf pairIs stemIs stemInside periodIs
+      pub pair-mem : d .state ≡ s → subset 8 (d .load) rows ≡ true → e .state ≡ s → List·Memᴰ (i, j) (pairsOf (tableU A B S) s rows (linksOf (tableV A B P s rows)))
+      unfolding pairsOf fits pairIs stemIs stemInside periodIs
       pair-mem p inside q =
-          mem-steps (length (tableU A B S)) (length (tableV A B P s rows)) pairIs (λ i j. (i, j)) i j (stems.stem-below bound small false S a) (periods.period-below A B s rows P b)
+          mem-steps (length (tableU A B S)) (length (linksOf (tableV A B P s rows))) pairIs (λ i j. (i, j)) i j (stems.stem-below bound small false S a)
+          (omega (arith, periods.period-below A B s rows P b, length-map (tableV A B P s rows) (λ (q : Period). q .link)))
           (and-both (stemIs i && stemInside i) (periodIs j)
           (and-both (stemIs i) (stemInside i) (eq-eqb _ _ (stems.state-at bound small false S a ∙ p)) (rw (stems.target-at bound small false S a) inside))
           (eq-eqb _ _ (periods.state-at A B s rows P b ∙ q)))
 
-      pub accepts-is : accepts A B (tableU A B S) (tableV A B P s rows) i j ≡ meets 8 (d .load) (repeated 8 (e .load))
+      pub accepts-is : accepts (tableU A B S) (contextsOf (tableV A B P s rows)) i j ≡ meets 8 (d .load) (repeated 8 (e .load))
       unfolding accepts
-      accepts-is = rw (stems.target-at bound small false S a, periods.context-at A B s rows P b (record { reach = 0; through = 0 }))
+      accepts-is = rw (stems.target-at bound small false S a, context-held (tableV A B P s rows) j, periods.context-at A B s rows P b (record { reach = 0; through = 0 }))
 
   module _ (P : ℕ) where
     -- what the walk's test of a lasso answers
     pub judged : {u v : Word} (t : Test 16 16 8 A B S P u v)
-        → (accepts A B (tableU A B S) (tableV A B P (t .state) (t .w-in .node .load)) (t .u-in .index) (t .v-in .index) ≡ true) ↔ Accepted B u v
+        → (accepts (tableU A B S) (contextsOf (tableV A B P (t .state) (t .w-in .node .load))) (t .u-in .index) (t .v-in .index) ≡ true) ↔ Accepted B u v
     unfolding targetCovers
     judged {u} t =
         rw (accepts-is P (t .state) (t .w-in .node .load) (t .u-in .stands) (t .v-in .stands), test-target bound small S P t) (accepted small (test-context bound small S P t) u)
@@ -78,20 +91,20 @@ module _ {A B : Aut} (bound : Bounded 16 16 A) (small : Small 8 B) (S : ℕ) whe
     test-round t = round-mem bound small S (t .w-in .stands) (t .w-in .at-state) (t .opening)
 
     pub test-pair : {u v : Word} (t : Test 16 16 8 A B S P u v)
-        → List·Memᴰ (t .u-in .index, t .v-in .index) (pairsOf A B (tableU A B S) (t .state) (t .w-in .node .load) (tableV A B P (t .state) (t .w-in .node .load)))
+        → List·Memᴰ (t .u-in .index, t .v-in .index) (pairsOf (tableU A B S) (t .state) (t .w-in .node .load) (linksOf (tableV A B P (t .state) (t .w-in .node .load))))
     unfolding targetCovers
     test-pair t = pair-mem P (t .state) (t .w-in .node .load) (t .u-in .stands) (t .v-in .stands) (t .u-in .at-state) (t .inside) (t .v-in .at-state)
 
     -- and to no other
     module _ (few : S ≤ 4096) (short : P ≤ 65535) {s : ℕ} {k : ℕ} {w : Node ℕ} (at-w : At (stemEntries A B true S) k w) (state : w .state ≡ s) {i j : ℕ}
-        (m : List·Memᴰ (i, j) (pairsOf A B (tableU A B S) s (w .load) (tableV A B P s (w .load)))) where
+        (m : List·Memᴰ (i, j) (pairsOf (tableU A B S) s (w .load) (linksOf (tableV A B P s (w .load))))) where
       pub pair-test : Test 16 16 8 A B S P (stemWord (tableU A B S) i) (periodWord (linksOf (tableV A B P s (w .load))) j)
-      unfolding targetCovers pairsOf pairIs stemIs stemInside periodIs
+      unfolding targetCovers pairsOf fits pairIs stemIs stemInside periodIs
       pair-test =
           let rows = w .load in
           let (i-low, j-low, holds) = pair-of (pairIs P s rows) m in
           let (d, a) = stems.stem-entry bound small false S i i-low in
-          let (e, b) = periods.period-entry A B s rows P j j-low in
+          let (e, b) = periods.period-entry A B s rows P j (omega (arith, length-map (tableV A B P s rows) (λ (q : Period). q .link))) in
           let in-u = and-left (stemIs P s rows i && stemInside P s rows i) (periodIs P s rows j) holds in
           let rows-are = round-rows bound small S {c = (s, w .load)} (record { index = k; entry = w; stands = at-w; state = state; load = refl }) in
           let in-v = and-right (stemIs P s rows i && stemInside P s rows i) (periodIs P s rows j) holds in
@@ -117,6 +130,6 @@ module _ {A B : Aut} (bound : Bounded 16 16 A) (small : Small 8 B) (S : ℕ) whe
             };
           }
 
-      pub pair-judged : (accepts A B (tableU A B S) (tableV A B P s (w .load)) i j ≡ true) ↔ Accepted B (stemWord (tableU A B S) i) (periodWord (linksOf (tableV A B P s (w .load))) j)
+      pub pair-judged : (accepts (tableU A B S) (contextsOf (tableV A B P s (w .load))) i j ≡ true) ↔ Accepted B (stemWord (tableU A B S) i) (periodWord (linksOf (tableV A B P s (w .load))) j)
       unfolding pair-test
       pair-judged = judged pair-test

@@ -15,7 +15,7 @@ use Rattle.stems.proofs.Packed.{stem-complete}
 use Rattle.periods.specs.Periods.{Period, periodTable}
 use Rattle.periods.proofs.Packed.{period-complete}
 use Rattle.walk.specs.Words.{stemWord, periodWord}
-use Rattle.periods.specs.Lent.{linksOf}
+use Rattle.periods.specs.Lent.{linksOf, contextsOf}
 use Rattle.walk.specs.Walk.{included, shown, Finish, rounds, pairsOf, accepts, walk, passed, rejected}
 use Rattle.walk.specs.Room.{decided}
 use Rattle.walk.proofs.Runs.{Searched, all-pass, one-fails, searched, Ran, done, lacking, going, found, walks, whole}
@@ -27,15 +27,15 @@ use Rattle.walk.proofs.Tests.{judged, test-round, test-pair, pair-test,
 -- the round's table ended and its tests were passed
 record Passed (A B : Aut) (u : List ℕ) (room : ℕ) (c : ℕ × ℕ) : Type 0 where
   ends : Complete (periodTable A B (c .0) (c .1) room)
-  all : (d : ℕ × ℕ) → List·Memᴰ d (pairsOf A B u (c .0) (c .1) (tableV A B room (c .0) (c .1))) → accepts A B u (tableV A B room (c .0) (c .1)) (d .0) (d .1) ≡ true
+  all : (d : ℕ × ℕ) → List·Memᴰ d (pairsOf u (c .0) (c .1) (linksOf (tableV A B room (c .0) (c .1)))) → accepts u (contextsOf (tableV A B room (c .0) (c .1))) (d .0) (d .1) ≡ true
 
 -- a rejected pair of the round is shown
 record Shows (A B : Aut) (u : List ℕ) (room : ℕ) (c : ℕ × ℕ) : Type 0 where
-  shows : (i j : ℕ) → List·Memᴰ (i, j) (pairsOf A B u (c .0) (c .1) (tableV A B room (c .0) (c .1))) → accepts A B u (tableV A B room (c .0) (c .1)) i j ≡ false
+  shows : (i j : ℕ) → List·Memᴰ (i, j) (pairsOf u (c .0) (c .1) (linksOf (tableV A B room (c .0) (c .1)))) → accepts u (contextsOf (tableV A B room (c .0) (c .1))) i j ≡ false
       → Shown A B (stemWord u i) (periodWord (linksOf (tableV A B room (c .0) (c .1))) j)
 
 module _ {A B : Aut} {u : List ℕ} {room : ℕ} where
-  passes : (c : ℕ × ℕ) {v : List Period} {t k : ℕ} → periodTable A B (c .0) (c .1) room ≡ ended v → Searched (accepts A B u v) (pairsOf A B u (c .0) (c .1) v) t (passed k) → Passed A B u room c
+  passes : (c : ℕ × ℕ) {v : List Period} {t k : ℕ} → periodTable A B (c .0) (c .1) room ≡ ended v → Searched (accepts u (contextsOf v)) (pairsOf u (c .0) (c .1) (linksOf v)) t (passed k) → Passed A B u room c
   passes c e (all-pass k n h) = record { ends = rw e; all = rw e h }
 
   ran-included : {cs : List (ℕ × ℕ)} {p t : ℕ} {o : Finish} → Ran A B u room cs p t o → o .verdict ≡ included → (c : ℕ × ℕ) → List·Memᴰ c cs → Passed A B u room c
@@ -46,7 +46,7 @@ module _ {A B : Aut} {u : List ℕ} {room : ℕ} where
   ran-included (found v e s) q c m = absurd (let z : _≡_ {A = ℕ} 0 1 = cc in omega arith)
 
   rejects : (c : ℕ × ℕ) {v : List Period} {t k i j : ℕ} → periodTable A B (c .0) (c .1) room ≡ ended v
-      → Searched (accepts A B u v) (pairsOf A B u (c .0) (c .1) v) t (rejected k i j) → Shows A B u room c → Shown A B (stemWord u i) (periodWord (linksOf v) j)
+      → Searched (accepts u (contextsOf v)) (pairsOf u (c .0) (c .1) (linksOf v)) t (rejected k i j) → Shows A B u room c → Shown A B (stemWord u i) (periodWord (linksOf v) j)
   rejects c {i = i} {j = j} e (one-fails k i′ j′ l n m f) h = rw e at (h .shows i j (rw e m) (rw e f))
 
   ran-shown : {cs : List (ℕ × ℕ)} {p t : ℕ} {o : Finish} {x y : Word} → Ran A B u room cs p t o → ((c : ℕ × ℕ) → List·Memᴰ c cs → Shows A B u room c) → o .verdict ≡ shown x y → Shown A B x y

@@ -10,7 +10,7 @@ use lib.ListN.{length}
 use Rattle.acceptance.specs.Lasso.{Aut}
 use Rattle.growth.specs.Grow.{ended, full}
 use Rattle.periods.specs.Periods.{periodTable}
-use Rattle.walk.specs.Walk.{Verdict, included, shown, stemsFull, periodsFull, Finish, Walked, passed, rejected, search, rounds, pairsOf, accepts, unhindered}
+use Rattle.walk.specs.Walk.{Verdict, included, shown, stemsFull, periodsFull, Finish, Walked, passed, rejected, searchRound, rounds, unhindered}
 
 -- a verdict is given: answer 0
 abbrev pub decided : Verdict → Bool
@@ -45,7 +45,7 @@ module _ (A B : Aut) where
       elim (periodTable A B (c .0) (c .1) room) [
         | full v ↦ record { size = length v; before = t } ∷ []
         | ended v ↦
-            record { size = length v; before = t } ∷ elim (search (accepts A B u v) (pairsOf A B u (c .0) (c .1) v) t) [ passed k ↦ visits u room cs k | rejected k i j ↦ [] ]
+            record { size = length v; before = t } ∷ elim (searchRound u c v t) [ passed k ↦ visits u room cs k | rejected k i j ↦ [] ]
       ]
 
   -- those of the walk without room

@@ -1,6 +1,6 @@
 -- The walk of document 01 for a model A and a rule B, with room for S stems and P periods. Assumes nothing.
 use mathlib.Core.Bool.{Bool, true, false, _&&_, _||_}
-use mathlib.Core.List.{List, [], _∷_, map}
+use mathlib.Core.List.{List, [], _∷_}
 use Prim.Native.Nat.{ℕ, suc, _*_, _^_, max}
 use lib.Dec.{eqb}
 use lib.ListN.{length, getD}
@@ -8,13 +8,12 @@ use Rattle.bits.specs.Bits.{any}
 use Rattle.bits.specs.Sets.{subset, meets}
 use Rattle.bits.specs.Fields.{stemState, stemTarget, linkState}
 use Rattle.acceptance.specs.Lasso.{Word, Aut}
-use Rattle.acceptance.specs.Contexts.{Context}
 use Rattle.growth.specs.Grow.{ended, full}
 use Rattle.growth.specs.Steps.{steps}
 use Rattle.automata.specs.Repeated.{repeated}
 use Rattle.stems.specs.Stems.{stemTable}
 use Rattle.periods.specs.Periods.{Period, periodTable}
-use Rattle.periods.specs.Lent.{linksOf}
+use Rattle.periods.specs.Lent.{linksOf, contextsOf, contextIn}
 use Rattle.walk.specs.Words.{stemWord, periodWord}
 
 -- included and shown are document 01's answer 0, stemsFull is 8 (0 for U, 1 for W), periodsFull is 9
@@ -46,8 +45,22 @@ unfoldable pub search : (ℕ → ℕ → Bool) → List (ℕ × ℕ) → ℕ →
 search accepts [] t = passed t
 search accepts (c ∷ cs) t = elim (accepts (c .0) (c .1)) [ true ↦ search accepts cs (suc t) | false ↦ rejected (suc t) (c .0) (c .1) ]
 
-abbrev pub contextAt : List Period → ℕ → Context
-contextAt v j = getD (map (λ (e : Period). e .context) v) j (record { reach = 0; through = 0 })
+-- a stem at s, with target inside the rows
+unfoldable pub fits : (s rows entry : ℕ) → Bool
+fits s rows e = eqb (stemState e) s && subset 8 (stemTarget e) rows
+
+module _ (u : List ℕ) where
+  -- each such u in table order, and for each every v at s in table order: their indices
+  unfoldable pub pairsOf : (s rows : ℕ) (links : List ℕ) → List (ℕ × ℕ)
+  pairsOf s rows links = steps (length u) (length links) (λ i j. fits s rows (getD u i 0) && eqb (linkState (getD links j 0)) s) (λ i j. (i, j))
+
+  -- one test of a lasso on B
+  unfoldable pub accepts : (contexts : List ℕ) → ℕ → ℕ → Bool
+  accepts contexts i j = meets 8 (stemTarget (getD u i 0)) (repeated 8 (contextIn contexts j))
+
+  -- the tests of the round of s and rows, where v is its period table
+  abbrev pub searchRound : ℕ × ℕ → List Period → ℕ → Search
+  searchRound c v t = search (accepts (contextsOf v)) (pairsOf (c .0) (c .1) (linksOf v)) t
 
 -- a period may start at s: it is accepting, or a transition from it is (none in the base)
 unfoldable pub opening : Aut → ℕ → Bool
@@ -59,17 +72,6 @@ module _ (A B : Aut) where
   rounds w = steps 16 (length w) (λ s k. opening A s && eqb (stemState (getD w k 0)) s) (λ s k. (s, stemTarget (getD w k 0)))
 
   module _ (u : List ℕ) where
-    -- each u at s with target inside the rows, in table order, and for each every v at s in table order: their indices
-    unfoldable pub pairsOf : (s rows : ℕ) → List Period → List (ℕ × ℕ)
-    pairsOf s rows v =
-        steps (length u) (length v)
-        (λ i j. (eqb (stemState (getD u i 0)) s && subset 8 (stemTarget (getD u i 0)) rows) && eqb (linkState (getD (linksOf v) j 0)) s)
-        (λ i j. (i, j))
-
-    -- one test of a lasso on B
-    unfoldable pub accepts : List Period → ℕ → ℕ → Bool
-    accepts v i j = meets 8 (stemTarget (getD u i 0)) (repeated 8 (contextAt v j))
-
     -- the rounds in order, each with its period table built afresh; p and t are the counts so far
     unfoldable pub run : ℕ → List (ℕ × ℕ) → ℕ → ℕ → Finish
     run room [] p t = record { verdict = included; periods = p; tests = t }
@@ -77,7 +79,7 @@ module _ (A B : Aut) where
         elim (periodTable A B (c .0) (c .1) room) [
           | full v ↦ record { verdict = periodsFull; periods = max p (length v); tests = t }
           | ended v ↦
-              elim (search (accepts v) (pairsOf (c .0) (c .1) v) t) [
+              elim (searchRound u c v t) [
                 | passed k ↦ run room cs (max p (length v)) k
                 | rejected k i j ↦ record { verdict = shown (stemWord u i) (periodWord (linksOf v) j); periods = max p (length v); tests = k }
               ]

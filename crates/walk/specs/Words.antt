@@ -1,5 +1,5 @@
--- The stored words: letters along the parents, which come before their children (document 01, "Room"). The first number bounds the way. Assumes nothing.
-use mathlib.Core.Bool.{cond}
+-- The stored words: letters along the parents, which come before their children (document 01, "Room"), of the links or of the stems. Assumes nothing.
+use mathlib.Core.Bool.{Bool, true, false, cond}
 use mathlib.Core.List.{List, [], _∷_, _++_}
 use Prim.Native.Nat.{ℕ, zero, suc}
 use lib.Dec.{eqb}
@@ -7,18 +7,30 @@ use lib.ListN.{getD}
 use Rattle.bits.specs.Fields.{stemLetter, stemParent, linkLetter, linkParent}
 use Rattle.acceptance.specs.Lasso.{Word}
 
--- of the stem entry at index i; the root's is empty
-unfoldable pub stemBack : ℕ → List ℕ → ℕ → Word
-stemBack zero t i = []
-stemBack (suc f) t i = cond (eqb i 0) [] (stemBack f t (stemParent (getD t i 0)) ++ (stemLetter (getD t i 0) ∷ []))
+-- where a word begins: the parent of a one-letter period, and the root of the stems
+abbrev pub topOf : (links : Bool) → ℕ
+topOf true = 65535
+topOf false = 0
+
+abbrev pub parentOf : (links : Bool) → ℕ → ℕ
+parentOf true e = linkParent e
+parentOf false e = stemParent e
+
+abbrev pub letterOf : (links : Bool) → ℕ → ℕ
+letterOf true e = linkLetter e
+letterOf false e = stemLetter e
+
+-- the letters from the entry at i up to the top; the number bounds the way
+unfoldable pub chain : (links : Bool) → List ℕ → ℕ → ℕ → Word
+chain links t zero i = []
+chain links t (suc f) i = cond (eqb i (topOf links)) [] (chain links t f (parentOf links (getD t i 0)) ++ (letterOf links (getD t i 0) ∷ []))
+
+-- the word of the entry at i
+abbrev pub wordOf : (links : Bool) → List ℕ → ℕ → Word
+wordOf links t i = chain links t (suc i) i
 
 abbrev pub stemWord : List ℕ → ℕ → Word
-stemWord t i = stemBack i t i
-
--- of the period whose link is at index i; a one-letter period has parent 65,535
-unfoldable pub periodBack : ℕ → List ℕ → ℕ → Word
-periodBack zero t i = []
-periodBack (suc f) t i = cond (eqb (linkParent (getD t i 0)) 65535) [] (periodBack f t (linkParent (getD t i 0))) ++ (linkLetter (getD t i 0) ∷ [])
+stemWord t i = wordOf false t i
 
 abbrev pub periodWord : List ℕ → ℕ → Word
-periodWord t i = periodBack (suc i) t i
+periodWord t i = wordOf true t i

@@ -4,7 +4,7 @@ use mathlib.Core.Logic.{inr}
 use Prim.Native.Nat.{_+_}
 use mathlib.Core.Path.{_≡_, sym, ap, _∙_}
 use native.Mathlib.Omega.{arith}
-use Rattle.spelling.specs.Chains.{topOf}
+use Rattle.walk.specs.Words.{topOf}
 use Rattle.spelling.proofs.Chain.{Inside, spelled}
 use borrow.Author.Needs.{needs}
 use lib.ListN.{length}

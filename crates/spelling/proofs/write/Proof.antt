@@ -11,7 +11,7 @@ use mathlib.Core.Path.{_≡_, sym, ap, ap₂, _∙_}
 use mathlib.Core.List.{List, [], _∷_, _++_, append-nil, append-assoc}
 use lib.ListN.{drop, drop-of-length-le}
 use native.Mathlib.Omega.{arith}
-use Rattle.spelling.specs.Chains.{topOf}
+use Rattle.walk.specs.Words.{topOf}
 use Rattle.spelling.proofs.Chain.{Inside, spelled}
 use borrow.Author.Needs.{needs}
 use Prim.Native.Nat.{ℕ, _≤_, _-_}

@@ -1,5 +1,5 @@
 -- `lassos::fits` meets its contract. Assumes nothing.
-use Rattle.rounds.specs.Pairs.{fits}
+use Rattle.walk.specs.Walk.{fits}
 use Rattle.bits.specs.Fields.{stemState}
 use Rattle.bits.specs.Sets.{subset}
 use borrow.Author.Tests.{eq-eqb, ne-eqb}

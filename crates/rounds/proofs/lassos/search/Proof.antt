@@ -2,7 +2,8 @@
 use Rattle.bits.specs.Fields.{linkState}
 use borrow.Author.Tests.{ne-eqb, not-true, not-false}
 use Rattle.rounds.proofs.Pairs.{pairsFrom, pairsOn, Left, begin, pass-stem, enter, pass-period, leave, finish, tested, rejects, next-row, pairs-few}
-use Rattle.rounds.specs.Pairs.{fits, meeting}
+use Rattle.walk.specs.Walk.{fits}
+use Rattle.rounds.specs.Pairs.{meeting}
 use lib.ListN.{length, getD}
 use native.Mathlib.Omega.{arith}
 use mathlib.Core.Bool.{true}
