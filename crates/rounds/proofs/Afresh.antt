@@ -51,9 +51,9 @@ module _ (A B : Aut) (room s rows : ℕ) {g : Growth} {links₀ links contexts�
   table-within e = omega (arith, holds (periodTable A B s rows room) h e .1 .count, periods A B s rows .within room)
 
   -- and the lassos can be tested
-  pub judge-ready : {u chains sets : List ℕ} {t n : ℕ} → Ready room t u links₀ contexts₀ chains sets → g ≡ Ended n
-      → Few u (take (n - 0) links) sets t × (2 * length (take (n - 0) links) ≤ length (take (2 * n - 0) contexts))
-  judge-ready {n = n} ready e =
+  pub judge-ready : {u scratch₀ scratch : List ℕ} {t n : ℕ} → Ready room t u links₀ contexts₀ scratch₀ → length scratch ≡ length scratch₀ → g ≡ Ended n
+      → Few u (take (n - 0) links) scratch t × (2 * length (take (n - 0) links) ≤ length (take (2 * n - 0) contexts))
+  judge-ready {n = n} ready kept e =
       let v = entries (periodTable A B s rows room) in
       let h = holds (periodTable A B s rows room) h e .1 in
       let low = table-within e in
@@ -62,7 +62,7 @@ module _ (A B : Aut) (room s rows : ℕ) {g : Growth} {links₀ links contexts�
         record {
           stems = ready .stems;
           periods = omega (arith, h .count, ready .short);
-          sets-fit = omega (arith, h .count, ready .sets-fit);
+          sets-fit = omega (arith, h .count, ready .scratch-fits);
           tests = ready .few;
         },
         omega arith,

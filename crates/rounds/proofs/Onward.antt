@@ -48,16 +48,15 @@ module _ (A B : Aut) (u : List ℕ) (room : ℕ) where
   one-ran {c = c} p t e h = rw (e, course-one A B u room c p t) h
 
 -- the tables stay as long as they are
-pub ready-on : {room t m : ℕ} {u links₀ links contexts₀ contexts chains₀ chains sets₀ sets : List ℕ} → Ready room t u links₀ contexts₀ chains₀ sets₀
-    → length links ≡ length links₀ → length contexts ≡ length contexts₀ → length chains ≡ length chains₀ → length sets ≡ length sets₀ → m ≤ 2 ^ 50 → Ready room m u links contexts chains sets
-ready-on h l c d s m = record {
+pub ready-on : {room t m : ℕ} {u links₀ links contexts₀ contexts scratch₀ scratch : List ℕ} → Ready room t u links₀ contexts₀ scratch₀
+    → length links ≡ length links₀ → length contexts ≡ length contexts₀ → length scratch ≡ length scratch₀ → m ≤ 2 ^ 50 → Ready room m u links contexts scratch
+ready-on h l c s m = record {
   stems = h .stems;
   some = h .some;
   short = h .short;
   links-fit = omega (arith, h .links-fit);
   contexts-fit = omega (arith, h .contexts-fit);
-  chains-fit = omega (arith, h .chains-fit);
-  sets-fit = omega (arith, h .sets-fit);
+  scratch-fits = omega (arith, h .scratch-fits);
   few = m;
 }
 

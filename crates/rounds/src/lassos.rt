@@ -23,7 +23,7 @@ pub enum Found {
 }
 
 // Puts the set of the period at j in its place, if the period is at s: a test then needs no more than the set.
-fn put_set(links: &[u32], contexts: &[u64], s: u8, sets: &mut [u8], j: usize)
+fn put_set(links: &[u32], contexts: &[u64], s: u8, sets: &mut [u16], j: usize)
     requires { ⌜ Accepting s j (now links) (now contexts) (now sets) ⌝ }
     requires { ⌜ (j < length (now links)) × (j < length (now sets)) × (2 * j + 1 < length (now contexts)) ⌝ }
     ensures { λ _. ⌜ Accepting s (j + 1) (now (links .entry)) (now (contexts .entry)) (now (sets .exit)) ⌝ }
@@ -31,14 +31,14 @@ fn put_set(links: &[u32], contexts: &[u64], s: u8, sets: &mut [u8], j: usize)
     if entries::link_state(links[j]) != s {
         return;
     }
-    sets[j] = eight::repeated(Pairs8 {
-        reach: contexts[2 * j],
-        through: contexts[2 * j + 1],
-    });
+    let reach = contexts[2 * j];
+    let through = contexts[2 * j + 1];
+    let set = eight::repeated(Pairs8 { reach, through });
+    sets[j] = set as u16;
 }
 
 // The sets of all periods at s, each found once.
-pub fn put_sets(links: &[u32], contexts: &[u64], s: u8, sets: &mut [u8])
+pub fn put_sets(links: &[u32], contexts: &[u64], s: u8, sets: &mut [u16])
     requires { ⌜ (length (now links) ≤ length (now sets)) × (2 * length (now links) ≤ length (now contexts)) ⌝ }
     ensures { λ _. ⌜ Accepting s (length (now (links .entry))) (now (links .entry)) (now (contexts .entry)) (now (sets .exit)) ⌝ }
 {
@@ -60,14 +60,14 @@ fn fits(entry: u32, s: u8, target: u8) -> bool
 }
 
 // One test: the lasso is accepted if the stem leads to a state from which its period is.
-fn accepted(entry: u32, set: u8) -> bool
+fn accepted(entry: u32, set: u16) -> bool
     ensures { λ r. ⌜ r ≡ meets 8 (stemTarget entry) set ⌝ }
 {
-    entries::stem_target(entry) & set != 0
+    entries::stem_target(entry) as u16 & set != 0
 }
 
 // Tests the pairs in order, and leaves both loops at the first rejected one.
-pub fn search(stems: &[u32], links: &[u32], sets: &[u8], s: u8, target: u8, before: usize) -> Found
+pub fn search(stems: &[u32], links: &[u32], sets: &[u16], s: u8, target: u8, before: usize) -> Found
     requires { ⌜ Few (now stems) (now links) (now sets) before ⌝ }
     ensures { λ r. ⌜ r ≡ foundOf (search (meeting (now (stems .entry)) (now (sets .entry))) (pairsOf (now (stems .entry)) s target (now (links .entry))) before) ⌝ }
 {

@@ -44,26 +44,26 @@ fn larger(a: usize, b: usize) -> usize
     a
 }
 
-// Tests the lassos of a period table that is there, with the set of each of its periods found once.
+// Tests the lassos of a period table that is there, with the set of each of its periods found once and kept in the scratch.
 fn judge(
     stems: &[u32],
     links: &[u32],
     contexts: &[u64],
-    sets: &mut [u8],
+    scratch: &mut [u16],
     s: u8,
     target: u8,
     before: usize,
     t: usize,
 ) -> Rounds
-    requires { ⌜ Few (now stems) (now links) (now sets) t ⌝ }
+    requires { ⌜ Few (now stems) (now links) (now scratch) t ⌝ }
     requires { ⌜ 2 * length (now links) ≤ length (now contexts) ⌝ }
     ensures { λ r. ⌜ r ≡ answered (length (now (links .entry))) before
         (search (accepts (now (stems .entry)) (now (contexts .entry))) (pairsOf (now (stems .entry)) s target (now (links .entry))) t) ⌝ }
 {
-    lassos::put_sets(links, contexts, s, sets);
+    lassos::put_sets(links, contexts, s, scratch);
     let size = links.len();
     let p = larger(before, size);
-    match lassos::search(stems, links, sets, s, target, t) {
+    match lassos::search(stems, links, scratch, s, target, t) {
         lassos::Found::Passed(tests) => Rounds::Through { p, t: tests },
         lassos::Found::Rejected {
             tests,
@@ -85,8 +85,7 @@ fn round(
     entry: u32,
     links: &mut [u32],
     contexts: &mut [u64],
-    chains: &mut [u16],
-    sets: &mut [u8],
+    scratch: &mut [u16],
     room: usize,
     s: u8,
     model: &[[u16; 16]; 16],
@@ -96,7 +95,7 @@ fn round(
     p: usize,
     t: usize,
 ) -> Rounds
-    requires { ⌜ Ready room t (now stems) (now links) (now contexts) (now chains) (now sets) ⌝ }
+    requires { ⌜ Ready room t (now stems) (now links) (now contexts) (now scratch) ⌝ }
     requires { ⌜ (s < 16) × (bit («model_head» .accepting) s ≡ true) ⌝ }
     ensures { λ r. ⌜ Answers (course (autOf (cell (now (model .entry))) «model_head») (autOf (cell (now (rule .entry))) «rule_head») (now (stems .entry)) room (roundAt (autOf (cell (now (model .entry))) «model_head») s entry) p t) r (now (links .exit)) ⌝ }
 {
@@ -107,7 +106,7 @@ fn round(
     let grown = periods::grow(
         links,
         contexts,
-        chains,
+        scratch,
         room,
         s,
         target,
@@ -126,7 +125,7 @@ fn round(
         stems,
         &links[0..n],
         &contexts[0..2 * n],
-        sets,
+        scratch,
         s,
         target,
         p,
@@ -140,8 +139,7 @@ fn at_state(
     largest: &[u32],
     links: &mut [u32],
     contexts: &mut [u64],
-    chains: &mut [u16],
-    sets: &mut [u8],
+    scratch: &mut [u16],
     room: usize,
     s: u8,
     model: &[[u16; 16]; 16],
@@ -151,7 +149,7 @@ fn at_state(
     p_before: usize,
     t_before: usize,
 ) -> Rounds
-    requires { ⌜ Ready room «t_before» (now stems) (now links) (now contexts) (now chains) (now sets) ⌝ }
+    requires { ⌜ Ready room «t_before» (now stems) (now links) (now contexts) (now scratch) ⌝ }
     requires { ⌜ (s < 16) × (length (now largest) ≤ 4096) × («t_before» ≤ 2 ^ 48) ⌝ }
     ensures { λ r. ⌜ Answers (course (autOf (cell (now (model .entry))) «model_head») (autOf (cell (now (rule .entry))) «rule_head») (now (stems .entry)) room (roundsAt (autOf (cell (now (model .entry))) «model_head») (now (largest .entry)) s) «p_before» «t_before») r (now (links .exit)) ⌝ }
 {
@@ -167,8 +165,7 @@ fn at_state(
             largest[k],
             links,
             contexts,
-            chains,
-            sets,
+            scratch,
             room,
             s,
             model,
@@ -198,15 +195,14 @@ fn at_states(
     largest: &[u32],
     links: &mut [u32],
     contexts: &mut [u64],
-    chains: &mut [u16],
-    sets: &mut [u8],
+    scratch: &mut [u16],
     room: usize,
     model: &[[u16; 16]; 16],
     model_head: Head,
     rule: &[[u8; 8]; 16],
     rule_head: Head,
 ) -> Rounds
-    requires { ⌜ Ready room 0 (now stems) (now links) (now contexts) (now chains) (now sets) ⌝ }
+    requires { ⌜ Ready room 0 (now stems) (now links) (now contexts) (now scratch) ⌝ }
     requires { ⌜ length (now largest) ≤ 4096 ⌝ }
     ensures { λ r. ⌜ Answers (course (autOf (cell (now (model .entry))) «model_head») (autOf (cell (now (rule .entry))) «rule_head») (now (stems .entry)) room (rounds (autOf (cell (now (model .entry))) «model_head») (autOf (cell (now (rule .entry))) «rule_head») (now (largest .entry))) 0 0) r (now (links .exit)) ⌝ }
 {
@@ -219,8 +215,7 @@ fn at_states(
             largest,
             links,
             contexts,
-            chains,
-            sets,
+            scratch,
             room,
             s,
             model,
@@ -244,7 +239,7 @@ fn at_states(
     Rounds::Through { p, t }
 }
 
-// All rounds. The arrays serve within a round: they are lent to each, and what they hold at its end does not matter.
+// All rounds. The scratch serves within a round, first the growth of its table and then its tests: what it holds at the end of either does not matter.
 pub fn all(
     stems: &[u32],
     largest: &[u32],
@@ -260,15 +255,13 @@ pub fn all(
     requires { ⌜ (1 ≤ room) × (room ≤ 65535) × (room ≤ length (now links)) × (2 * room ≤ length (now contexts)) ⌝ }
     ensures { λ r. ⌜ Answers (course (autOf (cell (now (model .entry))) «model_head») (autOf (cell (now (rule .entry))) «rule_head») (now (stems .entry)) room (rounds (autOf (cell (now (model .entry))) «model_head») (autOf (cell (now (rule .entry))) «rule_head») (now (largest .entry))) 0 0) r (now (links .exit)) ⌝ }
 {
-    let mut chains = [0u16; 65551];
-    let mut sets = [0u8; 65535];
+    let mut scratch = [0u16; 65551];
     at_states(
         stems,
         largest,
         links,
         contexts,
-        &mut chains,
-        &mut sets,
+        &mut scratch,
         room,
         model,
         model_head,

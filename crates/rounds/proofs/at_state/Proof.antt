@@ -14,19 +14,19 @@ use Rattle.rounds.proofs.at_state.Statement.{statement}
 use Rattle.rounds.proofs.at_state.Tie as tie
 
 abbrev Inv-loop : tie.InvT-loop
-Inv-loop stems largest links₀ contexts₀ chains₀ sets₀ room s model model-head rule rule-head p-before t-before p₀ t₀ k₀ links contexts chains sets p t k =
-    (k ≤ length largest) × (t ≤ t-before + k * 2 ^ 28) × (length links ≡ length links₀) × (length contexts ≡ length contexts₀) × (length chains ≡ length chains₀) × (length sets ≡ length sets₀)
+Inv-loop stems largest links₀ contexts₀ scratch₀ room s model model-head rule rule-head p-before t-before p₀ t₀ k₀ links contexts scratch p t k =
+    (k ≤ length largest) × (t ≤ t-before + k * 2 ^ 28) × (length links ≡ length links₀) × (length contexts ≡ length contexts₀) × (length scratch ≡ length scratch₀)
     × Onward (autOf (cell model) model-head) (autOf (cell rule) rule-head) stems room (roundFor (autOf (cell model) model-head) largest s) (length largest) (course (autOf (cell model) model-head) (autOf (cell rule) rule-head) stems room (roundsAt (autOf (cell model) model-head) largest s) p-before t-before) k p t
 
 abbrev μ-loop : tie.MeasureT-loop
-μ-loop stems largest links₀ contexts₀ chains₀ sets₀ room s model model-head rule rule-head p-before t-before p₀ t₀ k₀ links contexts chains sets p t k = length largest - k
+μ-loop stems largest links₀ contexts₀ scratch₀ room s model model-head rule rule-head p-before t-before p₀ t₀ k₀ links contexts scratch p t k = length largest - k
 
 has16-requires : tie.Need-has16-requires Inv-loop μ-loop
 has16-requires c κs = search needs
 
 returns : tie.Need-returns Inv-loop μ-loop
 returns c =
-    let args = c .before .before .before .before .before .before .before .before .args in
+    let args = c .before .before .before .before .before .before .before .args in
     none-ran (autOf (cell (args .model .now)) (args .model-head)) (autOf (cell (args .rule .now)) (args .rule-head)) (args .stems .now) (args .room)
     (no-rounds (autOf (cell (args .model .now)) (args .model-head)) (args .largest .now) (args .s) (opening-is (cell (args .model .now)) (args .model-head) (args .s) ∙ sym (c .before .has16 .ensures) ∙ not-true (c .before .has16 .result) (c .if1 .taken)))
     (args .p-before) (args .t-before)
@@ -34,8 +34,8 @@ returns c =
 loop-holds : tie.Need-loop-holds Inv-loop μ-loop
 unfolding roundsAt
 loop-holds c =
-    let args = c .before .before .before .before .before .before .before .before .args in
-    (search needs, search needs, refl, refl, refl, refl, onward-begin (autOf (cell (args .model .now)) (args .model-head)) (autOf (cell (args .rule .now)) (args .rule-head)) (args .stems .now) (args .room) (roundFor (autOf (cell (args .model .now)) (args .model-head)) (args .largest .now) (args .s)) (length (args .largest .now)) (args .p-before) (args .t-before))
+    let args = c .before .before .before .before .before .before .before .args in
+    (search needs, search needs, refl, refl, refl, onward-begin (autOf (cell (args .model .now)) (args .model-head)) (autOf (cell (args .rule .now)) (args .rule-head)) (args .stems .now) (args .room) (roundFor (autOf (cell (args .model .now)) (args .model-head)) (args .largest .now) (args .s)) (length (args .largest .now)) (args .p-before) (args .t-before))
 
 mul-round : tie.Need-mul-round Inv-loop μ-loop
 mul-round c = search needs
@@ -45,10 +45,10 @@ shared-slice-read-round c = search needs
 
 round-requires : tie.Need-round-requires Inv-loop μ-loop
 round-requires c κs =
-    let start = c .before .before .before .before .before .before .before .before .before .before .before .before .before .before .before in
-    let loop = c .before .before .before .before .before .before .loop in (
-      ready-on (start .pre .0) (loop .inv .2) (loop .inv .3) (loop .inv .4) (loop .inv .5) (omega (arith, loop .inv .1, start .pre .1 .1, start .pre .1 .2)),
-      (start .pre .1 .0, sym (c .before .before .before .before .before .before .before .before .has16 .ensures) ∙ not-false (c .before .before .before .before .before .before .before .before .has16 .result) (c .before .before .before .before .before .before .before .if1 .left)),
+    let start = c .before .before .before .before .before .before .before .before .before .before .before .before .before in
+    let loop = c .before .before .before .before .before .loop in (
+      ready-on (start .pre .0) (loop .inv .2) (loop .inv .3) (loop .inv .4) (omega (arith, loop .inv .1, start .pre .1 .1, start .pre .1 .2)),
+      (start .pre .1 .0, sym (c .before .before .before .before .before .before .before .has16 .ensures) ∙ not-false (c .before .before .before .before .before .before .before .has16 .result) (c .before .before .before .before .before .before .if1 .left)),
     )
 
 enum-known-r : tie.Need-enum-known-r Inv-loop μ-loop
@@ -63,38 +63,37 @@ same-length-2 c = search needs
 same-length-3 : tie.Need-same-length-3 Inv-loop μ-loop
 same-length-3 c = search needs
 
-same-length-4 : tie.Need-same-length-4 Inv-loop μ-loop
-same-length-4 c = search needs
-
 returns-2 : tie.Need-returns-2 Inv-loop μ-loop
 unfolding roundFor Stopped
 returns-2 c =
-    let args = c .before .before .before .before .before .before .before .before .before .before .before .before .before .before .before .before .before .before .before .before .before .before .before .before .before .args in
-    let loop = c .before .before .before .before .before .before .before .before .before .before .before .before .before .before .before .before .loop in
-    onward-stop (autOf (cell (args .model .now)) (args .model-head)) (autOf (cell (args .rule .now)) (args .rule-head)) (args .stems .now) (args .room) (roundFor (autOf (cell (args .model .now)) (args .model-head)) (args .largest .now) (args .s)) (length (args .largest .now)) (loop .inv .6) (omega arith) (c .before .before .before .before .before .before .before .before .before .round .ensures) (λ q y e. ⊎-elim (λ z. omega arith) (λ z. omega arith) (rw e at (c .match .keys2)))
+    let args = c .before .before .before .before .before .before .before .before .before .before .before .before .before .before .before .before .before .before .before .before .before .args in
+    let loop = c .before .before .before .before .before .before .before .before .before .before .before .before .before .loop in
+    onward-stop (autOf (cell (args .model .now)) (args .model-head)) (autOf (cell (args .rule .now)) (args .rule-head)) (args .stems .now) (args .room) (roundFor (autOf (cell (args .model .now)) (args .model-head)) (args .largest .now) (args .s)) (length (args .largest .now)) (loop .inv .5) (omega arith) (c .before .before .before .before .before .before .before .round .ensures) (λ q y e. ⊎-elim (λ z. omega arith) (λ z. omega arith) (rw e at (c .match .keys2)))
 
 add-k : tie.Need-add-k Inv-loop μ-loop
-add-k c = omega (arith, c .before .before .before .before .before .before .before .before .before .before .before .before .before .before .before .before .before .loop-test .taken, c .before .before .before .before .before .before .before .before .before .before .before .before .before .before .before .before .before .before .before .before .before .before .before .before .before .before .before .pre .1 .1)
+add-k c = omega (arith, c .before .before .before .before .before .before .before .before .before .before .before .before .before .before .loop-test .taken, c .before .before .before .before .before .before .before .before .before .before .before .before .before .before .before .before .before .before .before .before .before .before .before .pre .1 .1)
 
 loop-less : tie.Need-loop-less Inv-loop μ-loop
-loop-less c = omega (arith, c .before .before .before .before .before .before .before .before .before .before .before .before .before .before .before .before .before .loop-test .taken)
+loop-less c = omega (arith, c .before .before .before .before .before .before .before .before .before .before .before .before .before .before .loop-test .taken)
 
 loop-again : tie.Need-loop-again Inv-loop μ-loop
 unfolding roundFor
 loop-again c =
-    let start = c .before .before .before .before .before .before .before .before .before .before .before .before .before .before .before .before .before .before .before .before .before .before .before .before .before .before .before in
+    let start = c .before .before .before .before .before .before .before .before .before .before .before .before .before .before .before .before .before .before .before .before .before .before .before in
     let args = start .args in
-    let loop = c .before .before .before .before .before .before .before .before .before .before .before .before .before .before .before .before .before .before .loop in
-    let round = c .before .before .before .before .before .before .before .before .before .before .before .round in
+    let loop = c .before .before .before .before .before .before .before .before .before .before .before .before .before .before .before .loop in
+    let round = c .before .before .before .before .before .before .before .before .before .round in
     let more = tests-more (autOf (cell (args .model .now)) (args .model-head)) (autOf (cell (args .rule .now)) (args .rule-head)) (args .stems .now) (args .room) (start .pre .0 .stems) (start .pre .0 .short) (roundFor (autOf (cell (args .model .now)) (args .model-head)) (args .largest .now) (args .s) (loop .k)) (loop .p) (loop .t) 1 (round .ensures) (c .before .r .given .1) (round-count (autOf (cell (args .model .now)) (args .model-head)) (args .largest .now) (args .s) (loop .k)) in (
-      omega (arith, c .before .before .before .before .before .before .before .before .before .before .before .before .before .before .before .before .before .loop-test .taken),
+      omega (arith, c .before .before .before .before .before .before .before .before .before .before .before .before .before .before .loop-test .taken),
       omega (arith, more, loop .inv .1),
       search needs,
       search needs,
       search needs,
-      search needs,
-      onward-next (autOf (cell (args .model .now)) (args .model-head)) (autOf (cell (args .rule .now)) (args .rule-head)) (args .stems .now) (args .room) (roundFor (autOf (cell (args .model .now)) (args .model-head)) (args .largest .now) (args .s)) (length (args .largest .now)) (loop .inv .6) (c .before .before .before .before .before .before .before .before .before .before .before .before .before .before .before .before .before .loop-test .taken) (round .ensures) (c .before .r .given .1),
+      onward-next (autOf (cell (args .model .now)) (args .model-head)) (autOf (cell (args .rule .now)) (args .rule-head)) (args .stems .now) (args .room) (roundFor (autOf (cell (args .model .now)) (args .model-head)) (args .largest .now) (args .s)) (length (args .largest .now)) (loop .inv .5) (c .before .before .before .before .before .before .before .before .before .before .before .before .before .before .loop-test .taken) (round .ensures) (c .before .r .given .1),
     )
+
+same-length-4 : tie.Need-same-length-4 Inv-loop μ-loop
+same-length-4 c = search needs
 
 same-length-5 : tie.Need-same-length-5 Inv-loop μ-loop
 same-length-5 c = search needs
@@ -102,16 +101,10 @@ same-length-5 c = search needs
 same-length-6 : tie.Need-same-length-6 Inv-loop μ-loop
 same-length-6 c = search needs
 
-same-length-7 : tie.Need-same-length-7 Inv-loop μ-loop
-same-length-7 c = search needs
-
-same-length-8 : tie.Need-same-length-8 Inv-loop μ-loop
-same-length-8 c = search needs
-
 returns-3 : tie.Need-returns-3 Inv-loop μ-loop
 returns-3 c =
-    let args = c .before .before .before .before .before .before .before .before .before .before .args in
-    onward-done (autOf (cell (args .model .now)) (args .model-head)) (autOf (cell (args .rule .now)) (args .rule-head)) (args .stems .now) (args .room) (roundFor (autOf (cell (args .model .now)) (args .model-head)) (args .largest .now) (args .s)) (length (args .largest .now)) (c .before .loop .inv .6) (c .loop-test .left)
+    let args = c .before .before .before .before .before .before .before .before .before .args in
+    onward-done (autOf (cell (args .model .now)) (args .model-head)) (autOf (cell (args .rule .now)) (args .rule-head)) (args .stems .now) (args .room) (roundFor (autOf (cell (args .model .now)) (args .model-head)) (args .largest .now) (args .s)) (length (args .largest .now)) (c .before .loop .inv .5) (c .loop-test .left)
 
 pub at-state-spec : {M : Type 1} → statement M
 at-state-spec =
@@ -129,13 +122,11 @@ at-state-spec =
     same-length
     same-length-2
     same-length-3
-    same-length-4
     returns-2
     add-k
     loop-less
     loop-again
+    same-length-4
     same-length-5
     same-length-6
-    same-length-7
-    same-length-8
     returns-3)

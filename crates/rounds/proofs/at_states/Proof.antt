@@ -14,24 +14,24 @@ use Rattle.rounds.proofs.at_states.Statement.{statement}
 use Rattle.rounds.proofs.at_states.Tie as tie
 
 abbrev Inv-loop : tie.InvT-loop
-Inv-loop stems largest links₀ contexts₀ chains₀ sets₀ room model model-head rule rule-head p₀ t₀ s₀ links contexts chains sets p t s =
-    (s ≤ 16) × (t ≤ s * 2 ^ 40) × (length links ≡ length links₀) × (length contexts ≡ length contexts₀) × (length chains ≡ length chains₀) × (length sets ≡ length sets₀)
+Inv-loop stems largest links₀ contexts₀ scratch₀ room model model-head rule rule-head p₀ t₀ s₀ links contexts scratch p t s =
+    (s ≤ 16) × (t ≤ s * 2 ^ 40) × (length links ≡ length links₀) × (length contexts ≡ length contexts₀) × (length scratch ≡ length scratch₀)
     × Onward (autOf (cell model) model-head) (autOf (cell rule) rule-head) stems room (roundsAt (autOf (cell model) model-head) largest) 16 (course (autOf (cell model) model-head) (autOf (cell rule) rule-head) stems room (rounds (autOf (cell model) model-head) (autOf (cell rule) rule-head) largest) 0 0) s p t
 
 abbrev μ-loop : tie.MeasureT-loop
-μ-loop stems largest links₀ contexts₀ chains₀ sets₀ room model model-head rule rule-head p₀ t₀ s₀ links contexts chains sets p t s = 16 - s
+μ-loop stems largest links₀ contexts₀ scratch₀ room model model-head rule rule-head p₀ t₀ s₀ links contexts scratch p t s = 16 - s
 
 loop-holds : tie.Need-loop-holds Inv-loop μ-loop
 loop-holds c =
-    let args = c .before .before .before .before .before .before .args in
-    (search needs, search needs, refl, refl, refl, refl, rw (rounds-are (autOf (cell (args .model .now)) (args .model-head)) (autOf (cell (args .rule .now)) (args .rule-head)) (args .largest .now)) (onward-begin (autOf (cell (args .model .now)) (args .model-head)) (autOf (cell (args .rule .now)) (args .rule-head)) (args .stems .now) (args .room) (roundsAt (autOf (cell (args .model .now)) (args .model-head)) (args .largest .now)) 16 0 0))
+    let args = c .before .before .before .before .before .args in
+    (search needs, search needs, refl, refl, refl, rw (rounds-are (autOf (cell (args .model .now)) (args .model-head)) (autOf (cell (args .rule .now)) (args .rule-head)) (args .largest .now)) (onward-begin (autOf (cell (args .model .now)) (args .model-head)) (autOf (cell (args .rule .now)) (args .rule-head)) (args .stems .now) (args .room) (roundsAt (autOf (cell (args .model .now)) (args .model-head)) (args .largest .now)) 16 0 0))
 
 at-state-requires : tie.Need-at-state-requires Inv-loop μ-loop
 at-state-requires c κs =
-    let start = c .before .before .before .before .before .before .before .before .before .before .before .before in
-    let loop = c .before .before .before .before .before .loop in (
-      ready-on (start .pre .0) (loop .inv .2) (loop .inv .3) (loop .inv .4) (loop .inv .5) (omega (arith, loop .inv .0, loop .inv .1)),
-      (c .before .before .before .before .loop-test .taken, start .pre .1, omega (arith, loop .inv .0, loop .inv .1)),
+    let start = c .before .before .before .before .before .before .before .before .before .before in
+    let loop = c .before .before .before .before .loop in (
+      ready-on (start .pre .0) (loop .inv .2) (loop .inv .3) (loop .inv .4) (omega (arith, loop .inv .0, loop .inv .1)),
+      (c .before .before .before .loop-test .taken, start .pre .1, omega (arith, loop .inv .0, loop .inv .1)),
     )
 
 enum-known-r : tie.Need-enum-known-r Inv-loop μ-loop
@@ -46,38 +46,37 @@ same-length-2 c = search needs
 same-length-3 : tie.Need-same-length-3 Inv-loop μ-loop
 same-length-3 c = search needs
 
-same-length-4 : tie.Need-same-length-4 Inv-loop μ-loop
-same-length-4 c = search needs
-
 returns : tie.Need-returns Inv-loop μ-loop
 unfolding Stopped
 returns c =
-    let args = c .before .before .before .before .before .before .before .before .before .before .before .before .before .before .before .before .before .before .before .before .before .before .args in
-    let loop = c .before .before .before .before .before .before .before .before .before .before .before .before .before .before .before .loop in
-    onward-stop (autOf (cell (args .model .now)) (args .model-head)) (autOf (cell (args .rule .now)) (args .rule-head)) (args .stems .now) (args .room) (roundsAt (autOf (cell (args .model .now)) (args .model-head)) (args .largest .now)) 16 (loop .inv .6) (c .before .before .before .before .before .before .before .before .before .before .before .before .before .before .loop-test .taken) (c .before .before .before .before .before .before .before .before .before .at-state .ensures) (λ q y e. ⊎-elim (λ z. omega arith) (λ z. omega arith) (rw e at (c .match .keys2)))
+    let args = c .before .before .before .before .before .before .before .before .before .before .before .before .before .before .before .before .before .before .args in
+    let loop = c .before .before .before .before .before .before .before .before .before .before .before .before .loop in
+    onward-stop (autOf (cell (args .model .now)) (args .model-head)) (autOf (cell (args .rule .now)) (args .rule-head)) (args .stems .now) (args .room) (roundsAt (autOf (cell (args .model .now)) (args .model-head)) (args .largest .now)) 16 (loop .inv .5) (c .before .before .before .before .before .before .before .before .before .before .before .loop-test .taken) (c .before .before .before .before .before .before .before .at-state .ensures) (λ q y e. ⊎-elim (λ z. omega arith) (λ z. omega arith) (rw e at (c .match .keys2)))
 
 add-s : tie.Need-add-s Inv-loop μ-loop
-add-s c = omega (arith, c .before .before .before .before .before .before .before .before .before .before .before .before .before .before .before .before .loop-test .taken)
+add-s c = omega (arith, c .before .before .before .before .before .before .before .before .before .before .before .before .before .loop-test .taken)
 
 loop-less : tie.Need-loop-less Inv-loop μ-loop
-loop-less c = omega (arith, c .before .before .before .before .before .before .before .before .before .before .before .before .before .before .before .before .loop-test .taken)
+loop-less c = omega (arith, c .before .before .before .before .before .before .before .before .before .before .before .before .before .loop-test .taken)
 
 loop-again : tie.Need-loop-again Inv-loop μ-loop
 loop-again c =
-    let start = c .before .before .before .before .before .before .before .before .before .before .before .before .before .before .before .before .before .before .before .before .before .before .before .before in
+    let start = c .before .before .before .before .before .before .before .before .before .before .before .before .before .before .before .before .before .before .before .before in
     let args = start .args in
-    let loop = c .before .before .before .before .before .before .before .before .before .before .before .before .before .before .before .before .before .loop in
-    let state = c .before .before .before .before .before .before .before .before .before .before .before .at-state in
+    let loop = c .before .before .before .before .before .before .before .before .before .before .before .before .before .before .loop in
+    let state = c .before .before .before .before .before .before .before .before .before .at-state in
     let count : length (roundsAt (autOf (cell (args .model .now)) (args .model-head)) (args .largest .now) (loop .s)) ≤ 4096 = omega (arith, rounds-count (autOf (cell (args .model .now)) (args .model-head)) (args .largest .now) (loop .s), start .pre .1) in
     let more = tests-more (autOf (cell (args .model .now)) (args .model-head)) (autOf (cell (args .rule .now)) (args .rule-head)) (args .stems .now) (args .room) (start .pre .0 .stems) (start .pre .0 .short) (roundsAt (autOf (cell (args .model .now)) (args .model-head)) (args .largest .now) (loop .s)) (loop .p) (loop .t) 4096 (state .ensures) (c .before .r .given .1) count in (
-      omega (arith, c .before .before .before .before .before .before .before .before .before .before .before .before .before .before .before .before .loop-test .taken),
+      omega (arith, c .before .before .before .before .before .before .before .before .before .before .before .before .before .loop-test .taken),
       omega (arith, more, loop .inv .1),
       search needs,
       search needs,
       search needs,
-      search needs,
-      onward-next (autOf (cell (args .model .now)) (args .model-head)) (autOf (cell (args .rule .now)) (args .rule-head)) (args .stems .now) (args .room) (roundsAt (autOf (cell (args .model .now)) (args .model-head)) (args .largest .now)) 16 (loop .inv .6) (c .before .before .before .before .before .before .before .before .before .before .before .before .before .before .before .before .loop-test .taken) (state .ensures) (c .before .r .given .1),
+      onward-next (autOf (cell (args .model .now)) (args .model-head)) (autOf (cell (args .rule .now)) (args .rule-head)) (args .stems .now) (args .room) (roundsAt (autOf (cell (args .model .now)) (args .model-head)) (args .largest .now)) 16 (loop .inv .5) (c .before .before .before .before .before .before .before .before .before .before .before .before .before .loop-test .taken) (state .ensures) (c .before .r .given .1),
     )
+
+same-length-4 : tie.Need-same-length-4 Inv-loop μ-loop
+same-length-4 c = search needs
 
 same-length-5 : tie.Need-same-length-5 Inv-loop μ-loop
 same-length-5 c = search needs
@@ -85,16 +84,10 @@ same-length-5 c = search needs
 same-length-6 : tie.Need-same-length-6 Inv-loop μ-loop
 same-length-6 c = search needs
 
-same-length-7 : tie.Need-same-length-7 Inv-loop μ-loop
-same-length-7 c = search needs
-
-same-length-8 : tie.Need-same-length-8 Inv-loop μ-loop
-same-length-8 c = search needs
-
 returns-2 : tie.Need-returns-2 Inv-loop μ-loop
 returns-2 c =
-    let args = c .before .before .before .before .before .before .before .before .args in
-    onward-done (autOf (cell (args .model .now)) (args .model-head)) (autOf (cell (args .rule .now)) (args .rule-head)) (args .stems .now) (args .room) (roundsAt (autOf (cell (args .model .now)) (args .model-head)) (args .largest .now)) 16 (c .before .loop .inv .6) (c .loop-test .left)
+    let args = c .before .before .before .before .before .before .before .args in
+    onward-done (autOf (cell (args .model .now)) (args .model-head)) (autOf (cell (args .rule .now)) (args .rule-head)) (args .stems .now) (args .room) (roundsAt (autOf (cell (args .model .now)) (args .model-head)) (args .largest .now)) 16 (c .before .loop .inv .5) (c .loop-test .left)
 
 pub at-states-spec : {M : Type 1} → statement M
 at-states-spec =
@@ -108,13 +101,11 @@ at-states-spec =
     same-length
     same-length-2
     same-length-3
-    same-length-4
     returns
     add-s
     loop-less
     loop-again
+    same-length-4
     same-length-5
     same-length-6
-    same-length-7
-    same-length-8
     returns-2)

@@ -18,7 +18,7 @@ stem-state-requires c κs = search needs
 
 returns : tie.Need-returns
 returns c =
-    let start = c .before .before .before .before .before .before .before in
+    let start = c .before .before .before .before .before .before in
     let args = start .args in
     none-ran (autOf (cell (args .model .now)) (args .model-head)) (autOf (cell (args .rule .now)) (args .rule-head)) (args .stems .now) (args .room)
     (no-round (autOf (cell (args .model .now)) (args .model-head)) (args .s) (args .entry) (opening-is (cell (args .model .now)) (args .model-head) (args .s) ∙ start .pre .1 .1) (ne-eqb (stemState (args .entry)) (args .s) (λ e. c .if1 .taken (c .before .stem-state .ensures ∙ e))))
@@ -50,7 +50,7 @@ same-length-3 c = search needs
 
 returns-2 : tie.Need-returns-2
 returns-2 c =
-    let start = c .before .before .before .before .before .before .before .before .before .before .before .before .before .before .before .before .before .before .before .before .before in
+    let start = c .before .before .before .before .before .before .before .before .before .before .before .before .before .before .before .before .before .before .before .before in
     let args = start .args in
     one-ran (autOf (cell (args .model .now)) (args .model-head)) (autOf (cell (args .rule .now)) (args .rule-head)) (args .stems .now) (args .room) (args .p) (args .t)
     (one-round (autOf (cell (args .model .now)) (args .model-head)) (args .s) (args .entry) (opening-is (cell (args .model .now)) (args .model-head) (args .s) ∙ start .pre .1 .1) (eq-eqb (stemState (args .entry)) (args .s) (sym (c .before .before .before .before .before .before .before .before .before .before .before .before .before .before .before .stem-state .ensures) ∙ c .before .before .before .before .before .before .before .before .before .before .before .before .before .before .if1 .left))
@@ -65,13 +65,13 @@ part-judge-start c = search needs
 
 part-judge-end : tie.Need-part-judge-end
 part-judge-end c =
-    let start = c .before .before .before .before .before .before .before .before .before .before .before .before .before .before .before .before .before .before .before .before .before .before in
+    let start = c .before .before .before .before .before .before .before .before .before .before .before .before .before .before .before .before .before .before .before .before .before in
     let args = start .args in
     omega (arith, table-within (autOf (cell (args .model .now)) (args .model-head)) (autOf (cell (args .rule .now)) (args .rule-head)) (args .room) (args .s) (c .before .before .before .before .before .before .before .before .before .before .before .before .before .before .stem-target .result) (c .before .before .before .before .before .before .before .before .before .before .grow .ensures) (c .before .before .grown .given .1))
 
 mul-judge : tie.Need-mul-judge
 mul-judge c =
-    let start = c .before .before .before .before .before .before .before .before .before .before .before .before .before .before .before .before .before .before .before .before .before .before .before in
+    let start = c .before .before .before .before .before .before .before .before .before .before .before .before .before .before .before .before .before .before .before .before .before .before in
     let args = start .args in
     omega (arith, table-within (autOf (cell (args .model .now)) (args .model-head)) (autOf (cell (args .rule .now)) (args .rule-head)) (args .room) (args .s) (c .before .before .before .before .before .before .before .before .before .before .before .before .before .before .before .stem-target .result) (c .before .before .before .before .before .before .before .before .before .before .before .grow .ensures) (c .before .before .before .grown .given .1), start .pre .0 .short)
 
@@ -83,15 +83,15 @@ part-judge-start-2 c = search needs
 
 part-judge-end-2 : tie.Need-part-judge-end-2
 part-judge-end-2 c =
-    let start = c .before .before .before .before .before .before .before .before .before .before .before .before .before .before .before .before .before .before .before .before .before .before .before .before in
+    let start = c .before .before .before .before .before .before .before .before .before .before .before .before .before .before .before .before .before .before .before .before .before .before .before in
     let args = start .args in
     omega (arith, table-within (autOf (cell (args .model .now)) (args .model-head)) (autOf (cell (args .rule .now)) (args .rule-head)) (args .room) (args .s) (c .before .before .before .before .before .before .before .before .before .before .before .before .before .before .before .before .stem-target .result) (c .before .before .before .before .before .before .before .before .before .before .before .before .grow .ensures) (c .before .before .before .before .grown .given .1))
 
 judge-requires : tie.Need-judge-requires
 judge-requires c κs =
-    let start = c .before .before .before .before .before .before .before .before .before .before .before .before .before .before .before .before .before .before .before .before .before .before .before .before .before .before in
+    let start = c .before .before .before .before .before .before .before .before .before .before .before .before .before .before .before .before .before .before .before .before .before .before .before .before .before in
     let args = start .args in
-    judge-ready (autOf (cell (args .model .now)) (args .model-head)) (autOf (cell (args .rule .now)) (args .rule-head)) (args .room) (args .s) (c .before .before .before .before .before .before .before .before .before .before .before .before .before .before .before .before .before .before .stem-target .result) (c .before .before .before .before .before .before .before .before .before .before .before .before .before .before .grow .ensures) (start .pre .0) (c .before .before .before .before .before .before .grown .given .1)
+    judge-ready (autOf (cell (args .model .now)) (args .model-head)) (autOf (cell (args .rule .now)) (args .rule-head)) (args .room) (args .s) (c .before .before .before .before .before .before .before .before .before .before .before .before .before .before .before .before .before .before .stem-target .result) (c .before .before .before .before .before .before .before .before .before .before .before .before .before .before .grow .ensures) (start .pre .0) (c .before .before .before .before .before .before .before .before .before .before .before .before .before .before .grow .kept .1 .1 .0) (c .before .before .before .before .before .before .grown .given .1)
 
 same-length-4 : tie.Need-same-length-4
 same-length-4 c = search needs
@@ -102,12 +102,9 @@ same-length-5 c = search needs
 same-length-6 : tie.Need-same-length-6
 same-length-6 c = search needs
 
-same-length-7 : tie.Need-same-length-7
-same-length-7 c = search needs
-
 returns-3 : tie.Need-returns-3
 returns-3 c =
-    let start = c .before .before .before .before .before .before .before .before .before .before .before .before .before .before .before .before .before .before .before .before .before .before .before .before .before .before .before .before .before in
+    let start = c .before .before .before .before .before .before .before .before .before .before .before .before .before .before .before .before .before .before .before .before .before .before .before .before .before .before .before .before in
     let args = start .args in
     one-ran (autOf (cell (args .model .now)) (args .model-head)) (autOf (cell (args .rule .now)) (args .rule-head)) (args .stems .now) (args .room) (args .p) (args .t)
     (one-round (autOf (cell (args .model .now)) (args .model-head)) (args .s) (args .entry) (opening-is (cell (args .model .now)) (args .model-head) (args .s) ∙ start .pre .1 .1) (eq-eqb (stemState (args .entry)) (args .s) (sym (c .before .before .before .before .before .before .before .before .before .before .before .before .before .before .before .before .before .before .before .before .before .before .before .stem-state .ensures) ∙ c .before .before .before .before .before .before .before .before .before .before .before .before .before .before .before .before .before .before .before .before .before .before .if1 .left))
@@ -140,5 +137,4 @@ round-spec =
     same-length-4
     same-length-5
     same-length-6
-    same-length-7
     returns-3)

@@ -22,29 +22,35 @@ returns c =
     let start = c .before .before .before .before .before .before in
     put-none (start .pre .0) (ne-eqb (linkState (getD (start .args .links .now) (start .args .j) 0)) (start .args .s) (λ e. c .if1 .taken (c .before .link-state .ensures ∙ e)))
 
-mul-t7 : tie.Need-mul-t7
-mul-t7 c = search needs
+mul-reach : tie.Need-mul-reach
+mul-reach c = search needs
 
-mul-t11 : tie.Need-mul-t11
-mul-t11 c = search needs
+mul-reach-2 : tie.Need-mul-reach-2
+mul-reach-2 c = search needs
 
-shared-slice-read-t13 : tie.Need-shared-slice-read-t13
-shared-slice-read-t13 c = search needs
+shared-slice-read-reach : tie.Need-shared-slice-read-reach
+shared-slice-read-reach c = search needs
 
-mul-t14 : tie.Need-mul-t14
-mul-t14 c = search needs
+mul-through : tie.Need-mul-through
+mul-through c = search needs
 
-add-t15 : tie.Need-add-t15
-add-t15 c = search needs
+add-through : tie.Need-add-through
+add-through c = search needs
 
-mul-t16 : tie.Need-mul-t16
-mul-t16 c = search needs
+mul-through-2 : tie.Need-mul-through-2
+mul-through-2 c = search needs
 
-shared-slice-read-t18 : tie.Need-shared-slice-read-t18
-shared-slice-read-t18 c = search needs
+shared-slice-read-through : tie.Need-shared-slice-read-through
+shared-slice-read-through c = search needs
 
 repeated-requires : tie.Need-repeated-requires
 repeated-requires c κs = search needs
+
+cast-sets : tie.Need-cast-sets
+cast-sets c = search needs
+
+mul-sets : tie.Need-mul-sets
+mul-sets c = search needs
 
 slice-write-sets : tie.Need-slice-write-sets
 slice-write-sets c = search needs
@@ -65,14 +71,16 @@ put-set-spec =
     shared-slice-read-link-state
     link-state-requires
     returns
-    mul-t7
-    mul-t11
-    shared-slice-read-t13
-    mul-t14
-    add-t15
-    mul-t16
-    shared-slice-read-t18
+    mul-reach
+    mul-reach-2
+    shared-slice-read-reach
+    mul-through
+    add-through
+    mul-through-2
+    shared-slice-read-through
     repeated-requires
+    cast-sets
+    mul-sets
     slice-write-sets
     same-length
     returns-2)

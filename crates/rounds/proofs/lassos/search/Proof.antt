@@ -85,6 +85,9 @@ add-tests c =
     let inner = c .before .before .before .before .loop in
     omega (arith, inner .inv .2, start .pre .tests, start .pre .periods, pairs-few (start .pre) (c .before .before .before .before .before .before .before .before .before .search .u) (omega arith))
 
+mul-accepted : tie.Need-mul-accepted Inv-loop μ-loop Inv-search μ-search
+mul-accepted c = search needs
+
 shared-slice-read-accepted :
     tie.Need-shared-slice-read-accepted Inv-loop μ-loop Inv-search μ-search
 shared-slice-read-accepted c = search needs
@@ -153,6 +156,7 @@ search-spec =
     loop-less
     loop-again
     add-tests
+    mul-accepted
     shared-slice-read-accepted
     accepted-requires
     add-v-2
