@@ -7,9 +7,9 @@ use native.Mathlib.Omega.{arith}
 use lib.ListN.{length}
 use Rattle.search.specs.declared.Counts.{Counts}
 use Rattle.search.specs.declared.Lengths.{Lengths}
-use Rattle.search.specs.Walk.{Verdict, included, shown, stemsFull, periodsFull}
+use Rattle.walk.specs.Walk.{Verdict, included, shown, stemsFull, periodsFull}
 use Rattle.search.specs.Ending.{endingBy, stemShown, periodShown}
-use Rattle.search.specs.Room.{decided}
+use Rattle.walk.specs.Room.{decided}
 use Rattle.inclusion.specs.declared.Answer.{Answer}
 use Rattle.inclusion.specs.declared.Answer.the-variants as says
 use Rattle.inclusion.specs.Answers.{answerTo, numbersOf}

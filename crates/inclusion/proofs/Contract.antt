@@ -11,10 +11,10 @@ use Rattle.growth.specs.Lent.{over}
 use Rattle.records.specs.Spelled.{spelled}
 use Rattle.search.specs.declared.Counts.{Counts}
 use Rattle.search.specs.declared.Lengths.{Lengths}
-use Rattle.search.specs.Walk.{Verdict, included, shown, stemsFull, periodsFull, Walked}
+use Rattle.walk.specs.Walk.{Verdict, included, shown, stemsFull, periodsFull, Walked}
 use Rattle.search.specs.Ending.{Buffers, countsOf, endingBy, stemShown, periodShown, leftBy}
-use Rattle.search.specs.Room.{decided as conclusive}
-use Rattle.search.proofs.Room.{more-room}
+use Rattle.walk.specs.Room.{decided as conclusive}
+use Rattle.walk.proofs.Room.{more-room}
 use Rattle.inclusion.specs.declared.Answer.{Answer}
 use Rattle.inclusion.specs.declared.Answer.the-variants as says
 use Rattle.inclusion.specs.Answers.{answerTo, walkOf, numbersOf}

@@ -11,12 +11,12 @@ use Rattle.records.specs.declared.Refusal.{Refusal}
 use Rattle.records.specs.Spelled.{spelled}
 use Rattle.search.specs.declared.Counts.{Counts}
 use Rattle.search.specs.declared.Lengths.{Lengths}
-use Rattle.search.specs.Walk.{Verdict, Walked, unhindered}
+use Rattle.walk.specs.Walk.{Verdict, Walked, unhindered}
 use Rattle.search.specs.Ending.{Buffers, countsOf, stemShown, periodShown, leftBy}
-use Rattle.search.specs.Room.{visited}
-use Rattle.search.proofs.Verdicts.{walk-included, walk-shown}
-use Rattle.search.proofs.Bounds.{walk-bounds, walk-tables, walk-decided}
-use Rattle.search.proofs.Room.{walk-filled, short}
+use Rattle.walk.specs.Room.{visited}
+use Rattle.walk.proofs.Verdicts.{walk-included, walk-shown}
+use Rattle.walk.proofs.Bounds.{walk-bounds, walk-tables, walk-decided}
+use Rattle.walk.proofs.Room.{walk-filled, short}
 use Rattle.inclusion.specs.declared.Answer.{Answer}
 use Rattle.inclusion.specs.declared.Answer.the-variants as says
 use Rattle.inclusion.specs.Answers.{none-counted, Start, walks, stops, startOf, walkOf, decided, left, numbersOf}

@@ -11,7 +11,7 @@ use Rattle.records.specs.Spelled.{spelled}
 use Rattle.records.specs.Faults.{judged}
 use Rattle.records.proofs.Loaded.{loaded-model, loaded-rule}
 use Rattle.search.specs.declared.Ending.{Ending}
-use Rattle.search.specs.Walk.{Walked, walk}
+use Rattle.walk.specs.Walk.{Walked, walk}
 use Rattle.search.specs.Ending.{Buffers, endingOf, leftBy}
 use Rattle.search.specs.Contract.{Prepared, Concluded}
 use Rattle.inclusion.specs.declared.Answer.{Answer}

@@ -12,7 +12,7 @@ use Rattle.records.specs.Faults.{judged, refusal, refusalOf}
 use Rattle.search.specs.declared.Counts.{Counts}
 use Rattle.search.specs.declared.Ending.{Ending}
 use Rattle.search.specs.declared.Ending.the-variants.{Included as Passed, Shown, StemsFull, PeriodsFull}
-use Rattle.search.specs.Walk.{Walked, walk}
+use Rattle.walk.specs.Walk.{Walked, walk}
 use Rattle.search.specs.Ending.{Buffers, endingOf, leftBy}
 use Rattle.inclusion.specs.declared.Answer.{Answer}
 use Rattle.inclusion.specs.declared.Answer.the-variants.{Included, NotIncluded, Refused}

@@ -14,9 +14,9 @@ use Rattle.records.specs.Spelled.{count, statesIn, spelled}
 use Rattle.periods.specs.Periods.{periodTable}
 use Rattle.search.specs.declared.Counts.{Counts}
 use Rattle.search.specs.declared.Lengths.{Lengths}
-use Rattle.search.specs.Walk.{Walked, rounds, unhindered}
+use Rattle.walk.specs.Walk.{Walked, rounds, unhindered}
 use Rattle.search.specs.Ending.{Buffers}
-use Rattle.search.specs.Room.{Visit, visited, stopsAt}
+use Rattle.walk.specs.Room.{Visit, visited, stopsAt}
 use Rattle.inclusion.specs.declared.Answer.{Answer}
 use Rattle.inclusion.specs.declared.Answer.the-variants as says
 use Rattle.inclusion.specs.Answers.{walks, startOf, walkOf, decided, left, numbersOf}

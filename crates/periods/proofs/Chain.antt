@@ -2,7 +2,7 @@
 use mathlib.Core.Path.{_≡_, refl, sym, ap, _∙_, subst}
 use mathlib.Core.Bool.{Bool, true, false, cond, _&&_, _||_, or-false, or-true, or-assoc}
 use mathlib.Core.List.{List, [], _∷_, _++_}
-use Prim.Native.Nat.{ℕ, zero, suc, _-_, _≤_, _<_}
+use Prim.Native.Nat.{ℕ, zero, suc, _+_, _-_, _≤_, _<_}
 use native.Mathlib.Omega.{arith}
 use borrow.Author.Tests.{eqb-true, eq-eqb}
 use lib.Dec.{eqb}
@@ -87,12 +87,12 @@ scan-at links q contexts m n k next e l same =
       there = λ h. ap (λ (j : ℕ). linkState (getD links (j - 1) 0)) e ∙ lastAt-there links q k (subst (λ (j : ℕ). 0 < j) e h);
     }
 
-module _ {links latest earlier : List ℕ} {n : ℕ} (chain : Chained n links latest earlier) where
-  pub latest-le : (q : ℕ) → q < 16 → getD latest q 0 ≤ n
-  latest-le q l = omega (arith, chain .last q l, lastAt-le links q n)
+module _ {links chains : List ℕ} {n : ℕ} (chain : Chained n links chains) where
+  pub head-le : (q : ℕ) → q < 16 → getD chains q 0 ≤ n
+  head-le q l = omega (arith, chain .last q l, lastAt-le links q n)
 
-  pub scan-start : {q : ℕ} (contexts : List ℕ) (m : Context) → q < 16 → Scanned links q contexts m n (getD latest q 0)
-  scan-start {q} contexts m l = scan-at links q contexts m n n (getD latest q 0) (chain .last q l) (omega arith) refl
+  pub scan-start : {q : ℕ} (contexts : List ℕ) (m : Context) → q < 16 → Scanned links q contexts m n (getD chains q 0)
+  scan-start {q} contexts m l = scan-at links q contexts m n n (getD chains q 0) (chain .last q l) (omega arith) refl
 
 module _ {links contexts : List ℕ} {q : ℕ} {m : Context} {n next : ℕ} (s : Scanned links q contexts m n next) where
   pub scan-end : next ≡ 0 → any (hits links contexts q m) n ≡ false
@@ -111,16 +111,17 @@ module _ {links contexts : List ℕ} {q : ℕ} {m : Context} {n next : ℕ} (s :
     pub scan-hit : apart (contextIn contexts (next - 1)) m ≡ true → any (hits links contexts q m) n ≡ true
     scan-hit e = first ∙ ap (λ (b : Bool). any (hits links contexts q m) (next - 1) || b) e ∙ or-true (any (hits links contexts q m) (next - 1))
 
-    module _ {latest earlier : List ℕ} (chain : Chained n links latest earlier) where
-      back : getD earlier (next - 1) 0 ≡ lastAt links q (next - 1)
+    module _ {chains : List ℕ} (chain : Chained n links chains) where
+      back : getD chains (next + 15) 0 ≡ lastAt links q (next - 1)
       back =
           let l : next - 1 < n = omega (arith, s .within) in
-          chain .before (next - 1) l ∙ ap (λ (p : ℕ). lastAt links p (next - 1)) (s .there some)
+          let e : next + 15 ≡ 16 + (next - 1) = omega arith in
+          ap (λ (j : ℕ). getD chains j 0) e ∙ chain .before (next - 1) l ∙ ap (λ (p : ℕ). lastAt links p (next - 1)) (s .there some)
 
-      pub scan-less : getD earlier (next - 1) 0 < next
+      pub scan-less : getD chains (next + 15) 0 < next
       scan-less = omega (arith, back, lastAt-le links q (next - 1))
 
-      pub scan-on : apart (contextIn contexts (next - 1)) m ≡ false → Scanned links q contexts m n (getD earlier (next - 1) 0)
+      pub scan-on : apart (contextIn contexts (next - 1)) m ≡ false → Scanned links q contexts m n (getD chains (next + 15) 0)
       scan-on e =
-          scan-at links q contexts m n (next - 1) (getD earlier (next - 1) 0) back (omega (arith, s .within))
+          scan-at links q contexts m n (next - 1) (getD chains (next + 15) 0) back (omega (arith, s .within))
           (sym (first ∙ ap (λ (b : Bool). any (hits links contexts q m) (next - 1) || b) e ∙ or-false (any (hits links contexts q m) (next - 1))))

@@ -18,38 +18,36 @@ use Rattle.periods.proofs.Lent.{contexts-length, held-length, held-over
 use Rattle.periods.proofs.Appended.{unchanged}
 
 -- the tables hold n entries over what came, and `rest` of these is the outcome o
-pub record Going (room : ℕ) (o : Outcome Period) (rest : List Period → Outcome Period) (links₀ links contexts₀ contexts latest₀ latest earlier₀ earlier : List ℕ) (n : ℕ) : Type 0 where
-  pub ready : Ready room n links contexts latest earlier
+pub record Going (room : ℕ) (o : Outcome Period) (rest : List Period → Outcome Period) (links₀ links contexts₀ contexts chains₀ chains : List ℕ) (n : ℕ) : Type 0 where
+  pub ready : Ready room n links contexts chains
   pub goal : rest (held n links contexts) ≡ o
   pub links-left : links ≡ over (linksOf (held n links contexts)) links₀
   pub contexts-left : contexts ≡ over (contextsOf (held n links contexts)) contexts₀
   pub links-long : length links ≡ length links₀
   pub contexts-long : length contexts ≡ length contexts₀
-  pub latest-long : length latest ≡ length latest₀
-  pub earlier-long : length earlier ≡ length earlier₀
+  pub chains-long : length chains ≡ length chains₀
 
 -- after candidates that had room the tables are ready for more
-pub ready-on : {room n : ℕ} {links contexts latest earlier : List ℕ} → Ready room n links contexts latest earlier → (covers : Period → Period → Bool) (cs : List Period)
-    {r : Growth} {m : ℕ} {links′ contexts′ latest′ earlier′ : List ℕ} → r ≡ Ended m → Grows (offer covers room (held n links contexts) cs) r links links′ contexts contexts′ latest′ earlier′
-    → length links′ ≡ length links → length contexts′ ≡ length contexts → length latest′ ≡ length latest → length earlier′ ≡ length earlier
-    → Ready room m links′ contexts′ latest′ earlier′
-ready-on {room} {n} {links} {contexts} ready covers cs {links′ = links′} {latest′ = latest′} {earlier′ = earlier′} e g ll cl tl el =
+pub ready-on : {room n : ℕ} {links contexts chains : List ℕ} → Ready room n links contexts chains → (covers : Period → Period → Bool) (cs : List Period)
+    {r : Growth} {m : ℕ} {links′ contexts′ chains′ : List ℕ} → r ≡ Ended m → Grows (offer covers room (held n links contexts) cs) r links links′ contexts contexts′ chains′
+    → length links′ ≡ length links → length contexts′ ≡ length contexts → length chains′ ≡ length chains
+    → Ready room m links′ contexts′ chains′
+ready-on {room} {n} {links} {contexts} ready covers cs {links′ = links′} {chains′ = chains′} e g ll cl tl =
     let ends = ended-is (offer covers room (held n links contexts) cs) (sym e ∙ g .lent .answer) in
     record {
       within = omega (arith, ends .1, offer-within covers room (held n links contexts) cs (omega (arith, held-length links contexts n, ready .within)));
       small = ready .small;
       links-fit = omega (arith, ready .links-fit);
       contexts-fit = omega (arith, ready .contexts-fit);
-      latest-fit = omega (arith, ready .latest-fit);
-      earlier-fit = omega (arith, ready .earlier-fit);
-      chained = subst (λ (k : ℕ). Chained k links′ latest′ earlier′) (ends .1) (g .chained);
+      chains-fit = omega (arith, ready .chains-fit);
+      chained = subst (λ (k : ℕ). Chained k links′ chains′) (ends .1) (g .chained);
     }
 
 -- it begins with the entries that are there
-pub going : {room n : ℕ} {links contexts latest earlier : List ℕ} → Ready room n links contexts latest earlier → (rest : List Period → Outcome Period)
-    → Going room (rest (held n links contexts)) rest links links contexts contexts latest latest earlier earlier n
+pub going : {room n : ℕ} {links contexts chains : List ℕ} → Ready room n links contexts chains → (rest : List Period → Outcome Period)
+    → Going room (rest (held n links contexts)) rest links links contexts contexts chains chains n
 going {n = n} {links = links} {contexts = contexts} ready rest =
-    let same : Grows (ended (held n links contexts)) (Ended (length (held n links contexts))) links links contexts contexts _ _ = unchanged ready refl refl in
+    let same : Grows (ended (held n links contexts)) (Ended (length (held n links contexts))) links links contexts contexts _ = unchanged ready refl refl in
     record {
       ready = ready;
       goal = refl;
@@ -57,12 +55,11 @@ going {n = n} {links = links} {contexts = contexts} ready rest =
       contexts-left = same .lent .contexts-left;
       links-long = refl;
       contexts-long = refl;
-      latest-long = refl;
-      earlier-long = refl;
+      chains-long = refl;
     }
 
-module _ {room : ℕ} {o : Outcome Period} {rest : List Period → Outcome Period} {links₀ links contexts₀ contexts latest₀ latest earlier₀ earlier : List ℕ} {n : ℕ}
-    (at : Going room o rest links₀ links contexts₀ contexts latest₀ latest earlier₀ earlier n) where
+module _ {room : ℕ} {o : Outcome Period} {rest : List Period → Outcome Period} {links₀ links contexts₀ contexts chains₀ chains : List ℕ} {n : ℕ}
+    (at : Going room o rest links₀ links contexts₀ contexts chains₀ chains n) where
   -- ---- what a step leaves of no fewer entries is over what came at first
 
   module _ (done : Outcome Period) (more : n ≤ length (entries done)) where
@@ -79,17 +76,17 @@ module _ {room : ℕ} {o : Outcome Period} {rest : List Period → Outcome Perio
         long = omega (arith, held-length links contexts n, contexts-length (held n links contexts), contexts-length (entries done))
 
     -- the step that does the rest
-    pub going-last : {r q : Growth} {links′ contexts′ latest′ earlier′ : List ℕ} → rest (held n links contexts) ≡ done → r ≡ q
-        → Grows done r links links′ contexts contexts′ latest′ earlier′ → Grows o q links₀ links′ contexts₀ contexts′ latest′ earlier′
-    going-last {q = q} {links′} {contexts′} {latest′} {earlier′} is e g =
-        subst (λ (p : Outcome Period). Grows p q links₀ links′ contexts₀ contexts′ latest′ earlier′) (sym is ∙ at .goal)
+    pub going-last : {r q : Growth} {links′ contexts′ chains′ : List ℕ} → rest (held n links contexts) ≡ done → r ≡ q
+        → Grows done r links links′ contexts contexts′ chains′ → Grows o q links₀ links′ contexts₀ contexts′ chains′
+    going-last {q = q} {links′} {contexts′} {chains′} is e g =
+        subst (λ (p : Outcome Period). Grows p q links₀ links′ contexts₀ contexts′ chains′) (sym is ∙ at .goal)
         (record {
           lent = record { answer = sym e ∙ g .lent .answer; links-left = links-over (g .lent .links-left); contexts-left = contexts-over (g .lent .contexts-left) };
           chained = g .chained;
         })
 
   -- nothing is left to do
-  pub going-end : rest (held n links contexts) ≡ ended (held n links contexts) → Grows o (Ended n) links₀ links contexts₀ contexts latest earlier
+  pub going-end : rest (held n links contexts) ≡ ended (held n links contexts) → Grows o (Ended n) links₀ links contexts₀ contexts chains
   going-end is =
       going-last (ended (held n links contexts)) (omega (arith, held-length links contexts n)) is (ap Ended (held-length links contexts n)) (unchanged (at .ready) refl refl)
 
@@ -99,28 +96,27 @@ module _ {room : ℕ} {o : Outcome Period} {rest : List Period → Outcome Perio
   more covers cs = omega (arith, held-length links contexts n, offer-longer covers room (held n links contexts) cs)
 
   module _ (covers : Period → Period → Bool) (cs : List Period) (next : List Period → Outcome Period)
-      (split : rest (held n links contexts) ≡ onward (offer covers room (held n links contexts) cs) next) {links′ contexts′ latest′ earlier′ : List ℕ} where
+      (split : rest (held n links contexts) ≡ onward (offer covers room (held n links contexts) cs) next) {links′ contexts′ chains′ : List ℕ} where
     -- where it lacked room, so does the whole
-    pub going-full : {r : Growth} → r ≡ Full → Grows (offer covers room (held n links contexts) cs) r links links′ contexts contexts′ latest′ earlier′
-        → Grows o Full links₀ links′ contexts₀ contexts′ latest′ earlier′
+    pub going-full : {r : Growth} → r ≡ Full → Grows (offer covers room (held n links contexts) cs) r links links′ contexts contexts′ chains′
+        → Grows o Full links₀ links′ contexts₀ contexts′ chains′
     going-full e g =
         let stop = full-is (offer covers room (held n links contexts) cs) (sym e ∙ g .lent .answer) in
         going-last (offer covers room (held n links contexts) cs) (more covers cs) (split ∙ ap (λ (p : Outcome Period). onward p next) stop ∙ sym stop) e g
 
     -- else the next step goes on
-    pub going-on : {r : Growth} {m : ℕ} → r ≡ Ended m → Grows (offer covers room (held n links contexts) cs) r links links′ contexts contexts′ latest′ earlier′
-        → length links′ ≡ length links → length contexts′ ≡ length contexts → length latest′ ≡ length latest → length earlier′ ≡ length earlier
-        → Going room o next links₀ links′ contexts₀ contexts′ latest₀ latest′ earlier₀ earlier′ m
-    going-on {m = m} e g ll cl tl el =
+    pub going-on : {r : Growth} {m : ℕ} → r ≡ Ended m → Grows (offer covers room (held n links contexts) cs) r links links′ contexts contexts′ chains′
+        → length links′ ≡ length links → length contexts′ ≡ length contexts → length chains′ ≡ length chains
+        → Going room o next links₀ links′ contexts₀ contexts′ chains₀ chains′ m
+    going-on {m = m} e g ll cl tl =
         record {
-          ready = ready-on (at .ready) covers cs e g ll cl tl el;
+          ready = ready-on (at .ready) covers cs e g ll cl tl;
           goal = ap next holds ∙ sym (ap (λ (p : Outcome Period). onward p next) (ends .0)) ∙ sym split ∙ at .goal;
           links-left = links-over done (more covers cs) (g .lent .links-left) ∙ ap (λ (t : List Period). over (linksOf t) links₀) (sym holds);
           contexts-left = contexts-over done (more covers cs) (g .lent .contexts-left) ∙ ap (λ (t : List Period). over (contextsOf t) contexts₀) (sym holds);
           links-long = ll ∙ at .links-long;
           contexts-long = cl ∙ at .contexts-long;
-          latest-long = tl ∙ at .latest-long;
-          earlier-long = el ∙ at .earlier-long;
+          chains-long = tl ∙ at .chains-long;
         }
       where
         done : Outcome Period
@@ -135,6 +131,6 @@ module _ {room : ℕ} {o : Outcome Period} {rest : List Period → Outcome Perio
             ∙ ap₂ (held (length (entries done))) (g .lent .links-left) (g .lent .contexts-left) ∙ held-over (entries done) links contexts
 
 -- what is left of an outcome, by another name of it
-pub leaves : {o p : Outcome Period} {r : Growth} {links₀ links contexts₀ contexts latest earlier : List ℕ} → o ≡ p
-    → Grows o r links₀ links contexts₀ contexts latest earlier → Leaves p r links₀ links contexts₀ contexts
+pub leaves : {o p : Outcome Period} {r : Growth} {links₀ links contexts₀ contexts chains : List ℕ} → o ≡ p
+    → Grows o r links₀ links contexts₀ contexts chains → Leaves p r links₀ links contexts₀ contexts
 leaves {r = r} {links₀} {links} {contexts₀} {contexts} e g = subst (λ (p : Outcome Period). Leaves p r links₀ links contexts₀ contexts) e (g .lent)

@@ -20,27 +20,27 @@ module _ (covers : Period → Period → Bool) (room : ℕ) (f : ℕ → List Pe
   unfoldable pub from : ℕ → List Period → Outcome Period
   from i t = offer covers room t (gather i (k - i) f)
 
-  pub loop-start : {n : ℕ} {links contexts latest earlier : List ℕ} → Ready room n links contexts latest earlier
-      → Going room (offer covers room (held n links contexts) (gather 0 k f)) (from 0) links links contexts contexts latest latest earlier earlier n
+  pub loop-start : {n : ℕ} {links contexts chains : List ℕ} → Ready room n links contexts chains
+      → Going room (offer covers room (held n links contexts) (gather 0 k f)) (from 0) links links contexts contexts chains chains n
   unfolding from
-  loop-start {n} {links} {contexts} {latest} {earlier} ready =
-      subst (λ (j : ℕ). Going room (offer covers room (held n links contexts) (gather 0 j f)) (from 0) links links contexts contexts latest latest earlier earlier n) (sub-zero k)
+  loop-start {n} {links} {contexts} {chains} ready =
+      subst (λ (j : ℕ). Going room (offer covers room (held n links contexts) (gather 0 j f)) (from 0) links links contexts contexts chains chains n) (sub-zero k)
       (going ready (from 0))
 
-  module _ (i : ℕ) {o : Outcome Period} {links₀ links contexts₀ contexts latest₀ latest earlier₀ earlier : List ℕ} {n : ℕ}
-      (at : Going room o (from i) links₀ links contexts₀ contexts latest₀ latest earlier₀ earlier n) where
-    pub loop-end : k ≤ i → Grows o (Ended n) links₀ links contexts₀ contexts latest earlier
+  module _ (i : ℕ) {o : Outcome Period} {links₀ links contexts₀ contexts chains₀ chains : List ℕ} {n : ℕ}
+      (at : Going room o (from i) links₀ links contexts₀ contexts chains₀ chains n) where
+    pub loop-end : k ≤ i → Grows o (Ended n) links₀ links contexts₀ contexts chains
     unfolding from
     loop-end h = going-end at (gather-done covers room f k i (held n links contexts) h)
 
-    module _ (h : i < k) {links′ contexts′ latest′ earlier′ : List ℕ} where
-      pub loop-full : {r : Growth} → r ≡ Full → Grows (offer covers room (held n links contexts) (f i)) r links links′ contexts contexts′ latest′ earlier′
-          → Grows o Full links₀ links′ contexts₀ contexts′ latest′ earlier′
+    module _ (h : i < k) {links′ contexts′ chains′ : List ℕ} where
+      pub loop-full : {r : Growth} → r ≡ Full → Grows (offer covers room (held n links contexts) (f i)) r links links′ contexts contexts′ chains′
+          → Grows o Full links₀ links′ contexts₀ contexts′ chains′
       unfolding from
       loop-full e g = going-full at covers (f i) (from (i + 1)) (gather-on covers room f k i (held n links contexts) h) e g
 
-      pub loop-on : {r : Growth} {m : ℕ} → r ≡ Ended m → Grows (offer covers room (held n links contexts) (f i)) r links links′ contexts contexts′ latest′ earlier′
-          → length links′ ≡ length links → length contexts′ ≡ length contexts → length latest′ ≡ length latest → length earlier′ ≡ length earlier
-          → Going room o (from (i + 1)) links₀ links′ contexts₀ contexts′ latest₀ latest′ earlier₀ earlier′ m
+      pub loop-on : {r : Growth} {m : ℕ} → r ≡ Ended m → Grows (offer covers room (held n links contexts) (f i)) r links links′ contexts contexts′ chains′
+          → length links′ ≡ length links → length contexts′ ≡ length contexts → length chains′ ≡ length chains
+          → Going room o (from (i + 1)) links₀ links′ contexts₀ contexts′ chains₀ chains′ m
       unfolding from
-      loop-on e g ll cl tl el = going-on at covers (f i) (from (i + 1)) (gather-on covers room f k i (held n links contexts) h) e g ll cl tl el
+      loop-on e g ll cl tl = going-on at covers (f i) (from (i + 1)) (gather-on covers room f k i (held n links contexts) h) e g ll cl tl

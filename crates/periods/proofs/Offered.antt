@@ -27,31 +27,31 @@ offer-append {E} covers room t c p = rw (p, offer) (same (append room t c))
     same (ended s) = refl
     same (full s) = refl
 
-module _ (covers : Period → Period → Bool) {room n : ℕ} {links contexts latest earlier : List ℕ} (ready : Ready room n links contexts latest earlier) where
+module _ (covers : Period → Period → Bool) {room n : ℕ} {links contexts chains : List ℕ} (ready : Ready room n links contexts chains) where
   pub offered-covered : (e : Period) → covered covers (held n links contexts) e ≡ true
-      → Grows (offer covers room (held n links contexts) (e ∷ [])) (Ended n) links links contexts contexts latest earlier
+      → Grows (offer covers room (held n links contexts) (e ∷ [])) (Ended n) links links contexts contexts chains
   offered-covered e p = rw (offer-covered covers room (held n links contexts) e p) (unchanged ready refl (ap Ended (sym (held-length links contexts n))))
 
-  pub offered-new : (e : Period) {r : Growth} {links′ contexts′ latest′ earlier′ : List ℕ} → covered covers (held n links contexts) e ≡ false
-      → Grows (append room (held n links contexts) e) r links links′ contexts contexts′ latest′ earlier′
-      → Grows (offer covers room (held n links contexts) (e ∷ [])) r links links′ contexts contexts′ latest′ earlier′
+  pub offered-new : (e : Period) {r : Growth} {links′ contexts′ chains′ : List ℕ} → covered covers (held n links contexts) e ≡ false
+      → Grows (append room (held n links contexts) e) r links links′ contexts contexts′ chains′
+      → Grows (offer covers room (held n links contexts) (e ∷ [])) r links links′ contexts contexts′ chains′
   offered-new e p g = rw (offer-append covers room (held n links contexts) e p) g
 
   module _ (by : Move) (q : ℕ) where
     -- q is a successor
-    pub offered-some : {link : ℕ} {r : Growth} {links′ contexts′ latest′ earlier′ : List ℕ} → bit (by .successors) q ≡ true → link ≡ periodLink q (by .letter) (by .parent)
-        → Grows (offer covers room (held n links contexts) (record { link = link; context = ofPairs (by .context) } ∷ [])) r links links′ contexts contexts′ latest′ earlier′
-        → Grows (offer covers room (held n links contexts) (atState by q)) r links links′ contexts contexts′ latest′ earlier′
+    pub offered-some : {link : ℕ} {r : Growth} {links′ contexts′ chains′ : List ℕ} → bit (by .successors) q ≡ true → link ≡ periodLink q (by .letter) (by .parent)
+        → Grows (offer covers room (held n links contexts) (record { link = link; context = ofPairs (by .context) } ∷ [])) r links links′ contexts contexts′ chains′
+        → Grows (offer covers room (held n links contexts) (atState by q)) r links links′ contexts contexts′ chains′
     unfolding atState
     offered-some p e g = rw (p, ← e) g
 
     -- it is not
-    pub offered-none : bit (by .successors) q ≡ false → Grows (offer covers room (held n links contexts) (atState by q)) (Ended n) links links contexts contexts latest earlier
+    pub offered-none : bit (by .successors) q ≡ false → Grows (offer covers room (held n links contexts) (atState by q)) (Ended n) links links contexts contexts chains
     unfolding atState
     offered-none p = rw (p, offer-none covers room (held n links contexts)) (unchanged ready refl (ap Ended (sym (held-length links contexts n))))
 
 -- the same candidates by another name
-pub offered-same : (covers : Period → Period → Bool) (room : ℕ) (t : List Period) {cs ds : List Period} {r : Growth} {links links′ contexts contexts′ latest earlier : List ℕ} → cs ≡ ds
-    → Grows (offer covers room t cs) r links links′ contexts contexts′ latest earlier → Grows (offer covers room t ds) r links links′ contexts contexts′ latest earlier
-offered-same covers room t {r = r} {links} {links′} {contexts} {contexts′} {latest} {earlier} e g =
-    subst (λ (cs : List Period). Grows (offer covers room t cs) r links links′ contexts contexts′ latest earlier) e g
+pub offered-same : (covers : Period → Period → Bool) (room : ℕ) (t : List Period) {cs ds : List Period} {r : Growth} {links links′ contexts contexts′ chains : List ℕ} → cs ≡ ds
+    → Grows (offer covers room t cs) r links links′ contexts contexts′ chains → Grows (offer covers room t ds) r links links′ contexts contexts′ chains
+offered-same covers room t {r = r} {links} {links′} {contexts} {contexts′} {chains} e g =
+    subst (λ (cs : List Period). Grows (offer covers room t cs) r links links′ contexts contexts′ chains) e g

@@ -1,7 +1,7 @@
 //! The period table of one accepting state of the model, compared on the rows of one target.
 ghost use mathlib.Core.Path.{_≡_};
 ghost use mathlib.Core.Bool.{true};
-ghost use Prim.Native.Nat.{_*_, _<_, _≤_};
+ghost use Prim.Native.Nat.{_+_, _*_, _<_, _≤_};
 ghost use lib.ListN.{length};
 ghost use Rattle.bits.specs.Bits.{bit};
 ghost use Rattle.automata.specs.Loaded.{cell, autOf};
@@ -16,13 +16,12 @@ mod scan;
 mod table;
 
 // The table of an accepting state, compared on the rows of the target, from the one-letter words on: an accepting state opens a period by each of its
-// transitions. The entries are taken in order, and none is left when the last one has been. What `latest` and `earlier` hold at entry and at exit is
-// nobody's business: they serve the scan for covering entries within this call.
+// transitions. The entries are taken in order, and none is left when the last one has been. What `chains` holds at entry and at exit is nobody's
+// business: it serves the scan for covering entries within this call.
 pub fn grow(
     links: &mut [u32],
     contexts: &mut [u64],
-    latest: &mut [u16; 16],
-    earlier: &mut [u16; 65535],
+    chains: &mut [u16],
     room: usize,
     state: u8,
     target: u8,
@@ -31,13 +30,13 @@ pub fn grow(
     rule: &[[u8; 8]; 16],
     rule_head: Head,
 ) -> Growth
-    requires { ⌜ (room ≤ 65535) × (room ≤ length (now links)) × (2 * room ≤ length (now contexts)) ⌝ }
+    requires { ⌜ (room ≤ 65535) × (room ≤ length (now links)) × (2 * room ≤ length (now contexts)) × (16 + room ≤ length (now chains)) ⌝ }
     requires { ⌜ (state < 16) × (bit («model_head» .accepting) state ≡ true) ⌝ }
     ensures { λ r. ⌜ Leaves (periodTable (autOf (cell (now (model .entry))) «model_head») (autOf (cell (now (rule .entry))) «rule_head») state target room) r
         (now (links .entry)) (now (links .exit)) (now (contexts .entry)) (now (contexts .exit)) ⌝ }
 {
     let rows = rows::rows(target);
-    *latest = [0u16; 16];
+    table::clear(chains);
     let word = table::Word {
         state,
         parent: 65535,
@@ -46,8 +45,7 @@ pub fn grow(
     let Growth::Ended(first) = table::expand(
         links,
         contexts,
-        latest,
-        earlier,
+        chains,
         room,
         0,
         rows,
@@ -61,8 +59,7 @@ pub fn grow(
     table::take_all(
         links,
         contexts,
-        latest,
-        earlier,
+        chains,
         room,
         first,
         rows,

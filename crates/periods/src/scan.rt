@@ -36,24 +36,23 @@ fn apart(contexts: &[u64], i: usize, lacking: Pairs8) -> bool
 pub fn covered(
     links: &[u32],
     contexts: &[u64],
-    latest: &[u16],
-    earlier: &[u16],
+    chains: &[u16],
     n: usize,
     link: u32,
     c: Pairs8,
     rows: u64,
 ) -> bool
-    requires { ⌜ (2 * n ≤ length (now contexts)) × (16 ≤ length (now latest)) × (n ≤ length (now earlier)) ⌝ }
-    requires { ⌜ Chained n (now links) (now latest) (now earlier) ⌝ }
+    requires { ⌜ (2 * n ≤ length (now contexts)) × (16 + n ≤ length (now chains)) × (n ≤ 65535) ⌝ }
+    requires { ⌜ Chained n (now links) (now chains) ⌝ }
     ensures { λ r. ⌜ r ≡ covered (covers rows) (held n (now (links .entry)) (now (contexts .entry))) (record { link = link; context = ofPairs c }) ⌝ }
 {
     let missing = lacking(rows, c);
-    let mut next = latest[entries::link_state(link) as usize] as usize;
+    let mut next = chains[entries::link_state(link) as usize] as usize;
     while next != 0 {
         if apart(contexts, next - 1, missing) {
             return true;
         }
-        next = earlier[next - 1] as usize;
+        next = chains[next + 15] as usize;
     }
     false
 }

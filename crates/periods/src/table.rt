@@ -10,6 +10,7 @@ ghost use Rattle.automata.specs.Loaded.{cell, autOf, ofPairs};
 ghost use Rattle.periods.specs.Periods.{Period};
 ghost use Rattle.periods.specs.Lent.{contextIn, entryIn, held};
 ghost use Rattle.periods.specs.Masks.{covers};
+ghost use Rattle.periods.specs.Chained.{Cleared};
 ghost use Rattle.periods.specs.Growing.{Ready, Grows};
 ghost use Rattle.periods.specs.Candidates.{atState, atLetter, candidates, ofEntry};
 use crate::scan;
@@ -35,20 +36,31 @@ struct Move {
     context: Pairs8,
 }
 
-// An entry more, if there is room: its link, its context's two numbers, and its place at the end of its state's chain.
+// The chains of no entry: only their sixteen beginnings are set back.
+pub fn clear(chains: &mut [u16])
+    requires { ⌜ 16 ≤ length (now chains) ⌝ }
+    ensures { λ r. ⌜ Cleared 16 (now (chains .exit)) ⌝ }
+{
+    let mut q = 0usize;
+    while q < 16 {
+        chains[q] = 0;
+        q += 1;
+    }
+}
+
+// An entry more, if there is room: its link, its context's two numbers, and its place at the front of its state's chain.
 fn append(
     links: &mut [u32],
     contexts: &mut [u64],
-    latest: &mut [u16],
-    earlier: &mut [u16],
+    chains: &mut [u16],
     room: usize,
     n: usize,
     link: u32,
     c: Pairs8,
 ) -> Growth
-    requires { ⌜ Ready room n (now links) (now contexts) (now latest) (now earlier) ⌝ }
+    requires { ⌜ Ready room n (now links) (now contexts) (now chains) ⌝ }
     ensures { λ r. ⌜ Grows (append room (held n (now (links .entry)) (now (contexts .entry))) (record { link = link; context = ofPairs c })) r
-        (now (links .entry)) (now (links .exit)) (now (contexts .entry)) (now (contexts .exit)) (now (latest .exit)) (now (earlier .exit)) ⌝ }
+        (now (links .entry)) (now (links .exit)) (now (contexts .entry)) (now (contexts .exit)) (now (chains .exit)) ⌝ }
 {
     if n >= room {
         return Growth::Full;
@@ -57,8 +69,8 @@ fn append(
     links[n] = link;
     contexts[2 * n] = c.reach;
     contexts[2 * n + 1] = c.through;
-    earlier[n] = latest[state];
-    latest[state] = (n + 1) as u16;
+    chains[16 + n] = chains[state];
+    chains[state] = (n + 1) as u16;
     Growth::Ended(n + 1)
 }
 
@@ -66,30 +78,28 @@ fn append(
 fn offer(
     links: &mut [u32],
     contexts: &mut [u64],
-    latest: &mut [u16],
-    earlier: &mut [u16],
+    chains: &mut [u16],
     room: usize,
     n: usize,
     rows: u64,
     link: u32,
     c: Pairs8,
 ) -> Growth
-    requires { ⌜ Ready room n (now links) (now contexts) (now latest) (now earlier) ⌝ }
+    requires { ⌜ Ready room n (now links) (now contexts) (now chains) ⌝ }
     ensures { λ r. ⌜ Grows (offer (covers rows) room (held n (now (links .entry)) (now (contexts .entry))) (record { link = link; context = ofPairs c } ∷ [])) r
-        (now (links .entry)) (now (links .exit)) (now (contexts .entry)) (now (contexts .exit)) (now (latest .exit)) (now (earlier .exit)) ⌝ }
+        (now (links .entry)) (now (links .exit)) (now (contexts .entry)) (now (contexts .exit)) (now (chains .exit)) ⌝ }
 {
-    if scan::covered(links, contexts, latest, earlier, n, link, c, rows) {
+    if scan::covered(links, contexts, chains, n, link, c, rows) {
         return Growth::Ended(n);
     }
-    append(links, contexts, latest, earlier, room, n, link, c)
+    append(links, contexts, chains, room, n, link, c)
 }
 
 // The candidate at the state q, if q is a successor.
 fn offer_at(
     links: &mut [u32],
     contexts: &mut [u64],
-    latest: &mut [u16],
-    earlier: &mut [u16],
+    chains: &mut [u16],
     room: usize,
     n: usize,
     rows: u64,
@@ -97,23 +107,13 @@ fn offer_at(
     q: u8,
 ) -> Growth
     requires { ⌜ (by .letter < 16) × (q < 16) ⌝ }
-    requires { ⌜ Ready room n (now links) (now contexts) (now latest) (now earlier) ⌝ }
+    requires { ⌜ Ready room n (now links) (now contexts) (now chains) ⌝ }
     ensures { λ r. ⌜ Grows (offer (covers rows) room (held n (now (links .entry)) (now (contexts .entry))) (atState by q)) r
-        (now (links .entry)) (now (links .exit)) (now (contexts .entry)) (now (contexts .exit)) (now (latest .exit)) (now (earlier .exit)) ⌝ }
+        (now (links .entry)) (now (links .exit)) (now (contexts .entry)) (now (contexts .exit)) (now (chains .exit)) ⌝ }
 {
     if members::has16(by.successors, q as usize) {
         let link = entries::period_link(q, by.letter, by.parent);
-        return offer(
-            links,
-            contexts,
-            latest,
-            earlier,
-            room,
-            n,
-            rows,
-            link,
-            by.context,
-        );
+        return offer(links, contexts, chains, room, n, rows, link, by.context);
     }
     Growth::Ended(n)
 }
@@ -122,32 +122,21 @@ fn offer_at(
 fn by_letter(
     links: &mut [u32],
     contexts: &mut [u64],
-    latest: &mut [u16],
-    earlier: &mut [u16],
+    chains: &mut [u16],
     room: usize,
     n: usize,
     rows: u64,
     by: Move,
 ) -> Growth
     requires { ⌜ by .letter < 16 ⌝ }
-    requires { ⌜ Ready room n (now links) (now contexts) (now latest) (now earlier) ⌝ }
+    requires { ⌜ Ready room n (now links) (now contexts) (now chains) ⌝ }
     ensures { λ r. ⌜ Grows (offer (covers rows) room (held n (now (links .entry)) (now (contexts .entry))) (gather 0 16 (atState by))) r
-        (now (links .entry)) (now (links .exit)) (now (contexts .entry)) (now (contexts .exit)) (now (latest .exit)) (now (earlier .exit)) ⌝ }
+        (now (links .entry)) (now (links .exit)) (now (contexts .entry)) (now (contexts .exit)) (now (chains .exit)) ⌝ }
 {
     let mut count = n;
     let mut q = 0u8;
     while q < 16 {
-        let Growth::Ended(more) = offer_at(
-            links,
-            contexts,
-            latest,
-            earlier,
-            room,
-            count,
-            rows,
-            by,
-            q,
-        ) else {
+        let Growth::Ended(more) = offer_at(links, contexts, chains, room, count, rows, by, q) else {
             return Growth::Full;
         };
         count = more;
@@ -185,8 +174,7 @@ fn step(model: &[[u16; 16]; 16], rule: &[[u8; 8]; 16], head: Head, word: Word, x
 pub fn expand(
     links: &mut [u32],
     contexts: &mut [u64],
-    latest: &mut [u16],
-    earlier: &mut [u16],
+    chains: &mut [u16],
     room: usize,
     n: usize,
     rows: u64,
@@ -196,17 +184,16 @@ pub fn expand(
     word: Word,
 ) -> Growth
     requires { ⌜ word .state < 16 ⌝ }
-    requires { ⌜ Ready room n (now links) (now contexts) (now latest) (now earlier) ⌝ }
+    requires { ⌜ Ready room n (now links) (now contexts) (now chains) ⌝ }
     ensures { λ r. ⌜ Grows (offer (covers rows) room (held n (now (links .entry)) (now (contexts .entry)))
         (candidates (now (model .entry)) (autOf (cell (now (rule .entry))) head) (word .state) (word .parent) (ofPairs (word .context)))) r
-        (now (links .entry)) (now (links .exit)) (now (contexts .entry)) (now (contexts .exit)) (now (latest .exit)) (now (earlier .exit)) ⌝ }
+        (now (links .entry)) (now (links .exit)) (now (contexts .entry)) (now (contexts .exit)) (now (chains .exit)) ⌝ }
 {
     let mut count = n;
     let mut x = 0u8;
     while x < 16 {
         let by = step(model, rule, head, word, x);
-        let Growth::Ended(more) = by_letter(links, contexts, latest, earlier, room, count, rows, by)
-        else {
+        let Growth::Ended(more) = by_letter(links, contexts, chains, room, count, rows, by) else {
             return Growth::Full;
         };
         count = more;
@@ -234,8 +221,7 @@ fn word_at(links: &[u32], contexts: &[u64], i: usize) -> Word
 fn take(
     links: &mut [u32],
     contexts: &mut [u64],
-    latest: &mut [u16],
-    earlier: &mut [u16],
+    chains: &mut [u16],
     room: usize,
     n: usize,
     rows: u64,
@@ -245,17 +231,16 @@ fn take(
     i: usize,
 ) -> Growth
     requires { ⌜ i < n ⌝ }
-    requires { ⌜ Ready room n (now links) (now contexts) (now latest) (now earlier) ⌝ }
+    requires { ⌜ Ready room n (now links) (now contexts) (now chains) ⌝ }
     ensures { λ r. ⌜ Grows (offer (covers rows) room (held n (now (links .entry)) (now (contexts .entry)))
         (ofEntry (now (model .entry)) (autOf (cell (now (rule .entry))) head) i (entryIn (now (links .entry)) (now (contexts .entry)) i))) r
-        (now (links .entry)) (now (links .exit)) (now (contexts .entry)) (now (contexts .exit)) (now (latest .exit)) (now (earlier .exit)) ⌝ }
+        (now (links .entry)) (now (links .exit)) (now (contexts .entry)) (now (contexts .exit)) (now (chains .exit)) ⌝ }
 {
     let word = word_at(links, contexts, i);
     expand(
         links,
         contexts,
-        latest,
-        earlier,
+        chains,
         room,
         n,
         rows,
@@ -270,8 +255,7 @@ fn take(
 pub fn take_all(
     links: &mut [u32],
     contexts: &mut [u64],
-    latest: &mut [u16],
-    earlier: &mut [u16],
+    chains: &mut [u16],
     room: usize,
     n: usize,
     rows: u64,
@@ -279,9 +263,9 @@ pub fn take_all(
     rule: &[[u8; 8]; 16],
     head: Head,
 ) -> Growth
-    requires { ⌜ Ready room n (now links) (now contexts) (now latest) (now earlier) ⌝ }
+    requires { ⌜ Ready room n (now links) (now contexts) (now chains) ⌝ }
     ensures { λ r. ⌜ Grows (grow (covers rows) (ofEntry (now (model .entry)) (autOf (cell (now (rule .entry))) head)) room room 0 (held n (now (links .entry)) (now (contexts .entry)))) r
-        (now (links .entry)) (now (links .exit)) (now (contexts .entry)) (now (contexts .exit)) (now (latest .exit)) (now (earlier .exit)) ⌝ }
+        (now (links .entry)) (now (links .exit)) (now (contexts .entry)) (now (contexts .exit)) (now (chains .exit)) ⌝ }
 {
     let mut count = n;
     let mut i = 0;
@@ -289,8 +273,7 @@ pub fn take_all(
         let Growth::Ended(more) = take(
             links,
             contexts,
-            latest,
-            earlier,
+            chains,
             room,
             count,
             rows,

@@ -1,20 +1,4 @@
--- What is known of the walk, and the laws of its loops.
-pub mod AtWork
-pub mod Runs
-pub mod Reading
-pub mod Rounds
-pub mod Tests
-pub mod Verdicts
-pub mod Bounds
-pub mod Cut
-pub mod Room
-pub mod Chain
-pub mod Back
-pub mod Gathered
-pub mod Pairs
-pub mod Course
-pub mod Afresh
-pub mod Onward
-pub mod States
+-- How the walk ends: the laws of its functions.
 pub mod Shown
 pub mod Telling
+pub mod Clearing

@@ -10,19 +10,19 @@ use Rattle.acceptance.specs.Lasso.{Aut}
 use Rattle.growth.specs.Grow.{Outcome, ended, full, entries}
 use Rattle.growth.proofs.Steps.{steps-mem}
 use Rattle.periods.specs.Periods.{Period, periodTable}
-use Rattle.periods.specs.Lent.{linksOf}
+use Rattle.periods.specs.Lent.{linksOf, contextsOf}
 use Rattle.periods.proofs.Packed.{period-parents}
-use Rattle.search.specs.declared.round.Rounds.{Rounds}
-use Rattle.search.specs.declared.round.Rounds.the-variants.{Found}
+use Rattle.rounds.specs.declared.Rounds.{Rounds}
+use Rattle.rounds.specs.declared.Rounds.the-variants.{Found}
 use Rattle.search.specs.declared.Ending.{Ending}
-use Rattle.search.specs.Walk.{shown, Search, passed, rejected, search, rounds, pairsOf, accepts}
-use Rattle.search.specs.Words.{stemWord, periodWord}
-use Rattle.search.specs.Chains.{topOf, parentOf, Backward}
-use Rattle.search.specs.Course.{Course, through, lacking, found, along, judged, roundOf, course, finishOf, roundsOf, Answers}
+use Rattle.walk.specs.Walk.{shown, Search, passed, rejected, searchRound, rounds, pairsOf, accepts}
+use Rattle.walk.specs.Words.{topOf, parentOf, stemWord, periodWord}
+use Rattle.spelling.specs.Chains.{Backward}
+use Rattle.rounds.specs.Course.{Course, through, lacking, found, along, judged, roundOf, course, finishOf, roundsOf, Answers}
 use Rattle.search.specs.Contract.{Grown, finish, countsIn, countsBy, verdictBy, Legible, Showable, Shows}
-use Rattle.search.proofs.Runs.{Searched, one-fails, searched}
-use Rattle.search.proofs.Cut.{periods}
-use Rattle.search.proofs.Course.{run-course}
+use Rattle.walk.proofs.Runs.{Searched, one-fails, searched}
+use Rattle.walk.proofs.Cut.{periods}
+use Rattle.rounds.proofs.Course.{run-course}
 
 found-is : (c : Course) {p t i j n : ℕ} → Found p t i j n ≡ roundsOf c → (v : List Period) × (c ≡ found v i j p t) × (length v ≡ n)
 found-is (through p t) e = let z : _≡_ {A = ℕ} 0 1 = cc in absurd (omega arith)
@@ -38,35 +38,36 @@ pub record FoundIn (A B : Aut) (u : List ℕ) (room : ℕ) (v : List Period) (i 
   pub period-low : j < length v
 
 module _ (A B : Aut) (u : List ℕ) (room : ℕ) where
-  pair-low : (s rows : ℕ) (v : List Period) (t : ℕ) {k i j : ℕ} → search (accepts A B u v) (pairsOf A B u s rows v) t ≡ rejected k i j → (i < length u) × (j < length v)
+  pair-low : (c : ℕ × ℕ) (v : List Period) (t : ℕ) {k i j : ℕ} → searchRound u c v t ≡ rejected k i j → (i < length u) × (j < length v)
   unfolding pairsOf
-  pair-low s rows v t e = at (searched (accepts A B u v) (pairsOf A B u s rows v) t e)
+  pair-low c v t e = at (searched (accepts u (contextsOf v)) (pairsOf u (c .0) (c .1) (linksOf v)) t e)
     where
-      at : {k i j : ℕ} → Searched (accepts A B u v) (pairsOf A B u s rows v) t (rejected k i j) → (i < length u) × (j < length v)
+      at : {k i j : ℕ} → Searched (accepts u (contextsOf v)) (pairsOf u (c .0) (c .1) (linksOf v)) t (rejected k i j) → (i < length u) × (j < length v)
       at (one-fails k i j _ _ m _) =
-          let (x, y, l, h, _, same) = steps-mem {E = ℕ × ℕ} (length u) (length v) _ (λ i j. (i, j)) m in
-          (rw (ap (λ (c : ℕ × ℕ). c .0) same) l, rw (ap (λ (c : ℕ × ℕ). c .1) same) h)
+          let (x, y, l, h, _, same) = steps-mem {E = ℕ × ℕ} (length u) (length (linksOf v)) _ (λ i j. (i, j)) m in
+          let low : y < length v = omega (arith, length-map v (λ (q : Period). q .link)) in
+          (rw (ap (λ (c : ℕ × ℕ). c .0) same) l, rw (ap (λ (c : ℕ × ℕ). c .1) same) low)
 
   round-found : (c : ℕ × ℕ) (p t : ℕ) (v : List Period) (i j q y : ℕ) → roundOf A B u room c p t ≡ found v i j q y → FoundIn A B u room v i j
   unfolding roundOf
   round-found c p t v i j q y = at (periodTable A B (c .0) (c .1) room) refl
     where
-      go : (v′ : List Period) (o : Search) → periodTable A B (c .0) (c .1) room ≡ ended v′ → search (accepts A B u v′) (pairsOf A B u (c .0) (c .1) v′) t ≡ o
+      go : (v′ : List Period) (o : Search) → periodTable A B (c .0) (c .1) room ≡ ended v′ → searchRound u c v′ t ≡ o
           → judged v′ p o ≡ found v i j q y → FoundIn A B u room v i j
       go v′ (passed k) e s h = let z : _≡_ {A = ℕ} 0 1 = cc in absurd (omega arith)
       go v′ (rejected k i′ j′) e s h =
           let same-v : v′ ≡ v = cc in
           let same-i : i′ ≡ i = cc in
           let same-j : j′ ≡ j = cc in
-          let (l, m) = pair-low (c .0) (c .1) v′ t s in
+          let (l, m) = pair-low c v′ t s in
           record { s = c .0; rows = c .1; table = e ∙ ap ended same-v; stem-low = rw same-i at l; period-low = rw (same-j, same-v) at m }
 
       at : (o : Outcome Period) → periodTable A B (c .0) (c .1) room ≡ o → elim o [
         | full v ↦ lacking (max p (length v)) t
-        | ended v ↦ judged v p (search (accepts A B u v) (pairsOf A B u (c .0) (c .1) v) t)
+        | ended v ↦ judged v p (searchRound u c v t)
       ] ≡ found v i j q y → FoundIn A B u room v i j
       at (full v′) e h = let z : _≡_ {A = ℕ} 0 1 = cc in absurd (omega arith)
-      at (ended v′) e h = go v′ (search (accepts A B u v′) (pairsOf A B u (c .0) (c .1) v′) t) e refl h
+      at (ended v′) e h = go v′ (searchRound u c v′ t) e refl h
 
   course-found : (cs : List (ℕ × ℕ)) (p t : ℕ) (v : List Period) (i j q y : ℕ) → course A B u room cs p t ≡ found v i j q y → FoundIn A B u room v i j
   unfolding course

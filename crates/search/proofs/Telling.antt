@@ -23,13 +23,13 @@ use Rattle.stems.proofs.Parents.{stem-parents}
 use Rattle.search.specs.declared.Ending.{Ending}
 use Rattle.search.specs.declared.Ending.the-variants.{Shown, StemsFull}
 use Rattle.search.specs.declared.Counts.{Counts}
-use Rattle.search.specs.Words.{stemWord, periodWord}
-use Rattle.search.specs.Walk.{shown, rounds, walk}
+use Rattle.walk.specs.Words.{stemWord, periodWord}
+use Rattle.walk.specs.Walk.{shown, rounds, walk}
 use Rattle.search.specs.Ending.{endingBy, stemShown, periodShown, Buffers}
-use Rattle.search.specs.Chains.{Backward, Written}
+use Rattle.spelling.specs.Chains.{Backward, Written}
 use Rattle.search.specs.Contract.{Prepared, Told, Grown, finish, countsIn, Legible, Shows}
-use Rattle.search.proofs.Runs.{u-full, w-full, ran, runs, walk-is}
-use Rattle.search.proofs.Cut.{stems}
+use Rattle.walk.proofs.Runs.{u-full, w-full, ran, runs, walk-is}
+use Rattle.walk.proofs.Cut.{stems}
 
 -- ---- exact parts of the links and the contexts are lent
 

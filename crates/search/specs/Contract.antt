@@ -10,12 +10,12 @@ use Rattle.growth.specs.Numbered.{Bounded}
 use Rattle.growth.specs.Lent.{over}
 use Rattle.search.specs.declared.Counts.{Counts}
 use Rattle.search.specs.declared.Ending.{Ending}
-use Rattle.search.specs.declared.round.Rounds.{Rounds}
-use Rattle.search.specs.declared.round.Rounds.the-variants.{Through, Lacking, Found}
-use Rattle.search.specs.Words.{stemWord, periodWord}
-use Rattle.search.specs.Walk.{Verdict, included, shown, periodsFull, Finish, Walked, rounds, run}
+use Rattle.rounds.specs.declared.Rounds.{Rounds}
+use Rattle.rounds.specs.declared.Rounds.the-variants.{Through, Lacking, Found}
+use Rattle.walk.specs.Words.{stemWord, periodWord}
+use Rattle.walk.specs.Walk.{Verdict, included, shown, periodsFull, Finish, Walked, rounds, run}
 use Rattle.search.specs.Ending.{endingBy, endingOf, stemShown, periodShown, Buffers, leftBy}
-use Rattle.search.specs.Chains.{Backward}
+use Rattle.spelling.specs.Chains.{Backward}
 
 -- S and P in range, lent tables and outputs that are long enough, and automata of few states and letters
 pub record Prepared (A B : Aut) (S P : ℕ) (lent : Buffers) : Type 0 where

@@ -7,7 +7,7 @@ use Rattle.growth.specs.Lent.{over}
 use Rattle.search.specs.declared.Counts.{Counts}
 use Rattle.search.specs.declared.Ending.{Ending}
 use Rattle.search.specs.declared.Ending.the-variants.{Included, Shown, StemsFull, PeriodsFull}
-use Rattle.search.specs.Walk.{Verdict, included, shown, stemsFull, periodsFull, Walked}
+use Rattle.walk.specs.Walk.{Verdict, included, shown, stemsFull, periodsFull, Walked}
 
 abbrev pub countsOf : Walked → Counts
 countsOf r = record { u = length (r .smallest); w = length (r .largest); p = r .finish .periods; t = r .finish .tests }

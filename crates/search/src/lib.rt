@@ -3,15 +3,11 @@ ghost use mathlib.Core.Path.{_≡_};
 ghost use Prim.Native.Nat.{_*_, _≤_};
 ghost use lib.ListN.{length, replicate};
 ghost use Rattle.automata.specs.Loaded.{cell, autOf};
-ghost use Rattle.search.specs.Walk.{walk};
+ghost use Rattle.walk.specs.Walk.{walk};
 ghost use Rattle.search.specs.Contract.{Prepared, Concluded, Told, Grown, finish, countsIn, countsBy, verdictBy, Showable, Shows};
-use crate::round::Rounds;
 use automata::Head;
 use growth::Growth;
-
-mod lassos;
-mod round;
-mod spelling;
+use rounds::Rounds;
 
 // Document 01's counts: the entries of U and of W, the most entries that a period table had, the tests made.
 pub struct Counts {
@@ -89,7 +85,7 @@ fn conclude(
         (finish (autOf (cell (now (model .entry))) «model_head») (autOf (cell (now (rule .entry))) «rule_head») room (now (stems .entry)) (now (largest .entry)) .verdict)
         (now (stem .entry)) (now (stem .exit)) (now (period .entry)) (now (period .exit)) r ⌝ }
 {
-    let found = round::all(
+    let found = rounds::all(
         stems,
         largest,
         links,

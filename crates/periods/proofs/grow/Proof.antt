@@ -10,6 +10,9 @@ use Rattle.periods.proofs.grow.Tie as tie
 rows-requires : tie.Need-rows-requires
 rows-requires c κs = search needs
 
+clear-requires : tie.Need-clear-requires
+clear-requires c κs = search needs
+
 cast-idle : tie.Need-cast-idle
 cast-idle c = search needs
 
@@ -17,7 +20,7 @@ idle-requires : tie.Need-idle-requires
 idle-requires c κs = search needs
 
 expand-requires : tie.Need-expand-requires
-expand-requires c κs = (search needs, ready-none (search needs) (search needs) (search needs) (search needs))
+expand-requires c κs = (search needs, ready-none (search needs) (search needs) (search needs) (search needs) (search needs))
 
 enum-known-first : tie.Need-enum-known-first
 enum-known-first c = search needs
@@ -31,43 +34,50 @@ same-length c = search needs
 same-length-2 : tie.Need-same-length-2
 same-length-2 c = search needs
 
+same-length-3 : tie.Need-same-length-3
+same-length-3 c = search needs
+
 returns : tie.Need-returns
 returns c =
-    let start = c .before .before .before .before .before .before .before .before .before .before .before .before .before .before .before .before .before in
+    let start = c .before .before .before .before .before .before .before .before .before .before .before .before .before .before .before .before .before .before .before .before .before .before in
     leaves
-    (table-period _ _ _ _ _ _ _ (start .pre .1 .1) (c .before .before .before .before .before .before .before .before .before .before .before .before .before .before .rows .ensures)
-    (c .before .before .before .before .before .before .before .before .before .before .before .idle .ensures))
-    (table-full _ _ _ _ (expand-requires (c .before .before .before .before .before .before .before) (start .κs) .1) (c .before .before .before .before .before .before .expand .ensures) (c .enum-told .given .1))
+    (table-period _ _ _ _ _ _ _ (start .pre .1 .1) (c .before .before .before .before .before .before .before .before .before .before .before .before .before .before .before .before .before .before .rows .ensures)
+    (c .before .before .before .before .before .before .before .before .before .before .before .before .idle .ensures))
+    (table-full _ _ _ _ (expand-requires (c .before .before .before .before .before .before .before .before .before) (start .κs) .1) (c .before .before .before .before .before .before .before .before .expand .ensures) (c .enum-told .given .1))
 
 take-all-requires : tie.Need-take-all-requires
 take-all-requires c κs =
-    let start = c .before .before .before .before .before .before .before .before .before .before .before .before .before .before .before .before .before .before .before .before .before .before in
-    let called = c .before .before .before .before .before .before .before .before .before .before .before .expand in
-    ready-on (expand-requires (c .before .before .before .before .before .before .before .before .before .before .before .before) (start .κs) .1) _ _ (c .before .before .before .before .before .first .given .1) (called .ensures)
-    (called .kept .0) (called .kept .1 .0) (called .kept .1 .1 .0) (called .kept .1 .1 .1 .0)
-
-same-length-3 : tie.Need-same-length-3
-same-length-3 c = search needs
+    let start = c .before .before .before .before .before .before .before .before .before .before .before .before .before .before .before .before .before .before .before .before .before .before .before .before .before .before in
+    let called = c .before .before .before .before .before .before .before .before .before .before .before .before .expand in
+    ready-on (expand-requires (c .before .before .before .before .before .before .before .before .before .before .before .before .before) (start .κs) .1) _ _ (c .before .before .before .before .first .given .1) (called .ensures)
+    (called .kept .0) (called .kept .1 .0) (called .kept .1 .1 .0)
 
 same-length-4 : tie.Need-same-length-4
 same-length-4 c = search needs
 
+same-length-5 : tie.Need-same-length-5
+same-length-5 c = search needs
+
+same-length-6 : tie.Need-same-length-6
+same-length-6 c = search needs
+
 returns-2 : tie.Need-returns-2
 returns-2 c =
-    let start = c .before .before .before .before .before .before .before .before .before .before .before .before .before .before .before .before .before .before .before .before .before .before .before .before .before .before .before in
-    let called = c .before .before .before .before .before .before .before .before .before .before .before .before .before .before .before .before .expand in
+    let start = c .before .before .before .before .before .before .before .before .before .before .before .before .before .before .before .before .before .before .before .before .before .before .before .before .before .before .before .before .before .before .before .before .before in
+    let called = c .before .before .before .before .before .before .before .before .before .before .before .before .before .before .before .before .before .before .before .expand in
     leaves
-    (table-period _ _ _ _ _ _ _ (start .pre .1 .1) (c .before .before .before .before .before .before .before .before .before .before .before .before .before .before .before .before .before .before .before .before .before .before .before .before .rows .ensures)
-    (c .before .before .before .before .before .before .before .before .before .before .before .before .before .before .before .before .before .before .before .before .before .idle .ensures))
-    (table-done _ _ _ _ (expand-requires (c .before .before .before .before .before .before .before .before .before .before .before .before .before .before .before .before .before) (start .κs) .1) (called .ensures)
-    (c .before .before .before .before .before .before .before .before .before .before .first .given .1) (called .kept .0) (called .kept .1 .0) (called .kept .1 .1 .0) (called .kept .1 .1 .1 .0)
-    (c .before .before .before .before .take-all .ensures))
+    (table-period _ _ _ _ _ _ _ (start .pre .1 .1) (c .before .before .before .before .before .before .before .before .before .before .before .before .before .before .before .before .before .before .before .before .before .before .before .before .before .before .before .before .before .rows .ensures)
+    (c .before .before .before .before .before .before .before .before .before .before .before .before .before .before .before .before .before .before .before .before .before .before .before .idle .ensures))
+    (table-done _ _ _ _ (expand-requires (c .before .before .before .before .before .before .before .before .before .before .before .before .before .before .before .before .before .before .before .before) (start .κs) .1) (called .ensures)
+    (c .before .before .before .before .before .before .before .before .before .before .before .first .given .1) (called .kept .0) (called .kept .1 .0) (called .kept .1 .1 .0)
+    (c .before .before .before .before .before .before .take-all .ensures))
 
 pub grow-spec : {M : Type 1} → statement M
 grow-spec =
     tie.close
     (tie.spec
     rows-requires
+    clear-requires
     cast-idle
     idle-requires
     expand-requires
@@ -75,8 +85,10 @@ grow-spec =
     enum-told
     same-length
     same-length-2
+    same-length-3
     returns
     take-all-requires
-    same-length-3
     same-length-4
+    same-length-5
+    same-length-6
     returns-2)

@@ -1,5 +1,5 @@
 -- `clear_contexts` meets its contract. The loop's invariant: zeroes up to i, and then what was there. Assumes nothing.
-use Rattle.search.proofs.Back.{clear-more, clear-all}
+use Rattle.search.proofs.Clearing.{clear-more, clear-all}
 use native.Mathlib.Omega.{arith}
 use borrow.Author.Fill.{fill-none}
 use lib.ListN.{replicate, drop}

@@ -1,6 +1,6 @@
 -- `conclude` meets its contract. Assumes nothing.
 use Rattle.search.proofs.Shown.{showable, rounds-show}
-use Rattle.search.specs.Walk.{rounds}
+use Rattle.walk.specs.Walk.{rounds}
 use Rattle.automata.specs.Loaded.{cell, autOf}
 use borrow.Author.Needs.{needs}
 use Rattle.search.proofs.conclude.Statement.{statement}

@@ -1,6 +1,6 @@
 -- `walk` meets its contract. The links and the contexts are lent as exact parts, so what lies beyond is as it came. Assumes nothing.
 use Rattle.search.proofs.Telling.{parts-prepared}
-use Rattle.search.proofs.Back.{put-clear, clear-length}
+use Rattle.search.proofs.Clearing.{put-clear, clear-length}
 use Rattle.search.specs.Ending.{leftBy}
 use Prim.Native.Nat.{_*_}
 use borrow.Author.Needs.{needs}

@@ -7,7 +7,7 @@ use Rattle.periods.proofs.table.append.Statement.{statement}
 use Rattle.periods.proofs.table.append.Tie as tie
 
 returns : tie.Need-returns
-returns c = append-none (c .before .before .before .before .before .pre) _ (c .if1 .taken)
+returns c = append-none (c .before .before .before .before .pre) _ (c .if1 .taken)
 
 link-state-requires : tie.Need-link-state-requires
 link-state-requires c κs = search needs
@@ -42,32 +42,35 @@ mul-contexts-4 c = search needs
 slice-write-contexts-2 : tie.Need-slice-write-contexts-2
 slice-write-contexts-2 c = simp length-set (omega arith)
 
-mul-earlier : tie.Need-mul-earlier
-mul-earlier c = search needs
+mul-chains : tie.Need-mul-chains
+mul-chains c = search needs
 
-slice-read-earlier : tie.Need-slice-read-earlier
-slice-read-earlier c = search needs
+slice-read-chains : tie.Need-slice-read-chains
+slice-read-chains c = search needs
 
-mul-earlier-2 : tie.Need-mul-earlier-2
-mul-earlier-2 c = search needs
+add-chains : tie.Need-add-chains
+add-chains c = search needs
 
-slice-write-earlier : tie.Need-slice-write-earlier
-slice-write-earlier c = search needs
+mul-chains-2 : tie.Need-mul-chains-2
+mul-chains-2 c = search needs
 
-add-latest : tie.Need-add-latest
-add-latest c = search needs
+slice-write-chains : tie.Need-slice-write-chains
+slice-write-chains c = search needs
 
-cast-latest : tie.Need-cast-latest
-cast-latest c = search needs
+add-chains-2 : tie.Need-add-chains-2
+add-chains-2 c = search needs
 
-mul-latest : tie.Need-mul-latest
-mul-latest c = search needs
+cast-chains : tie.Need-cast-chains
+cast-chains c = search needs
 
-slice-write-latest : tie.Need-slice-write-latest
-slice-write-latest c = search needs
+mul-chains-3 : tie.Need-mul-chains-3
+mul-chains-3 c = search needs
 
-add-t12 : tie.Need-add-t12
-add-t12 c = search needs
+slice-write-chains-2 : tie.Need-slice-write-chains-2
+slice-write-chains-2 c = simp length-set (omega arith)
+
+add-t15 : tie.Need-add-t15
+add-t15 c = search needs
 
 same-length : tie.Need-same-length
 same-length c = search needs
@@ -78,11 +81,8 @@ same-length-2 c = search needs
 same-length-3 : tie.Need-same-length-3
 same-length-3 c = search needs
 
-same-length-4 : tie.Need-same-length-4
-same-length-4 c = search needs
-
 returns-2 : tie.Need-returns-2
-returns-2 c = append-written (c .before .before .before .before .before .before .before .pre) _ (c .before .before .if1 .left) (c .before .link-state .ensures)
+returns-2 c = append-written (c .before .before .before .before .before .before .pre) _ (c .before .before .if1 .left) (c .before .link-state .ensures)
 
 pub append-spec : {M : Type 1} → statement M
 append-spec =
@@ -100,17 +100,17 @@ append-spec =
     add-contexts
     mul-contexts-4
     slice-write-contexts-2
-    mul-earlier
-    slice-read-earlier
-    mul-earlier-2
-    slice-write-earlier
-    add-latest
-    cast-latest
-    mul-latest
-    slice-write-latest
-    add-t12
+    mul-chains
+    slice-read-chains
+    add-chains
+    mul-chains-2
+    slice-write-chains
+    add-chains-2
+    cast-chains
+    mul-chains-3
+    slice-write-chains-2
+    add-t15
     same-length
     same-length-2
     same-length-3
-    same-length-4
     returns-2)

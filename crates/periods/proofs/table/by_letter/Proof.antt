@@ -13,16 +13,16 @@ use Rattle.periods.proofs.table.by_letter.Statement.{statement}
 use Rattle.periods.proofs.table.by_letter.Tie as tie
 
 abbrev Inv-loop : tie.InvT-loop
-Inv-loop links₀ contexts₀ latest₀ earlier₀ room n rows by count₀ q₀ links contexts latest earlier count q =
+Inv-loop links₀ contexts₀ chains₀ room n rows by count₀ q₀ links contexts chains count q =
     (q ≤ 16)
     × Going room (offer (covers rows) room (held n links₀ contexts₀) (gather 0 16 (atState by))) (from (covers rows) room (atState by) 16 q)
-    links₀ links contexts₀ contexts latest₀ latest earlier₀ earlier count
+    links₀ links contexts₀ contexts chains₀ chains count
 
 abbrev μ-loop : tie.MeasureT-loop
-μ-loop links₀ contexts₀ latest₀ earlier₀ room n rows by count₀ q₀ links contexts latest earlier count q = 16 - q
+μ-loop links₀ contexts₀ chains₀ room n rows by count₀ q₀ links contexts chains count q = 16 - q
 
 loop-holds : tie.Need-loop-holds Inv-loop μ-loop
-loop-holds c = (search needs, loop-start _ _ _ _ (c .before .before .before .before .pre .1))
+loop-holds c = (search needs, loop-start _ _ _ _ (c .before .before .before .pre .1))
 
 offer-at-requires : tie.Need-offer-at-requires Inv-loop μ-loop
 offer-at-requires c κs = search needs
@@ -42,13 +42,10 @@ same-length-2 c = search needs
 same-length-3 : tie.Need-same-length-3 Inv-loop μ-loop
 same-length-3 c = search needs
 
-same-length-4 : tie.Need-same-length-4 Inv-loop μ-loop
-same-length-4 c = search needs
-
 returns : tie.Need-returns Inv-loop μ-loop
 returns c =
-    loop-full _ _ _ _ _ (c .before .before .before .before .before .before .before .before .before .before .before .before .before .before .before .before .loop .inv .1) (omega arith) (c .enum-told .given .1)
-    (c .before .before .before .before .before .before .before .before .before .before .offer-at .ensures)
+    loop-full _ _ _ _ _ (c .before .before .before .before .before .before .before .before .before .before .before .before .before .loop .inv .1) (omega arith) (c .enum-told .given .1)
+    (c .before .before .before .before .before .before .before .before .offer-at .ensures)
 
 add-q : tie.Need-add-q Inv-loop μ-loop
 add-q c = search needs
@@ -58,23 +55,20 @@ loop-less c = search needs
 
 loop-again : tie.Need-loop-again Inv-loop μ-loop
 loop-again c =
-    let called = c .before .before .before .before .before .before .before .before .before .before .before .offer-at in (
+    let called = c .before .before .before .before .before .before .before .before .before .offer-at in (
       search needs,
-      loop-on _ _ _ _ _ (c .before .before .before .before .before .before .before .before .before .before .before .before .before .before .before .before .before .loop .inv .1) (omega arith) (c .before .more .given .1) (called .ensures)
-          (called .kept .0) (called .kept .1 .0) (called .kept .1 .1 .0) (called .kept .1 .1 .1 .0),
+      loop-on _ _ _ _ _ (c .before .before .before .before .before .before .before .before .before .before .before .before .before .before .loop .inv .1) (omega arith) (c .before .more .given .1) (called .ensures)
+          (called .kept .0) (called .kept .1 .0) (called .kept .1 .1 .0),
     )
+
+same-length-4 : tie.Need-same-length-4 Inv-loop μ-loop
+same-length-4 c = search needs
 
 same-length-5 : tie.Need-same-length-5 Inv-loop μ-loop
 same-length-5 c = search needs
 
 same-length-6 : tie.Need-same-length-6 Inv-loop μ-loop
 same-length-6 c = search needs
-
-same-length-7 : tie.Need-same-length-7 Inv-loop μ-loop
-same-length-7 c = search needs
-
-same-length-8 : tie.Need-same-length-8 Inv-loop μ-loop
-same-length-8 c = search needs
 
 returns-2 : tie.Need-returns-2 Inv-loop μ-loop
 returns-2 c = loop-end _ _ _ _ _ (c .before .loop .inv .1) (c .loop-test .left)
@@ -92,13 +86,11 @@ by-letter-spec =
     same-length
     same-length-2
     same-length-3
-    same-length-4
     returns
     add-q
     loop-less
     loop-again
+    same-length-4
     same-length-5
     same-length-6
-    same-length-7
-    same-length-8
     returns-2)

@@ -14,17 +14,17 @@ use Rattle.periods.proofs.table.expand.Statement.{statement}
 use Rattle.periods.proofs.table.expand.Tie as tie
 
 abbrev Inv-loop : tie.InvT-loop
-Inv-loop links₀ contexts₀ latest₀ earlier₀ room n rows model rule head word count₀ x₀ links contexts latest earlier count x =
+Inv-loop links₀ contexts₀ chains₀ room n rows model rule head word count₀ x₀ links contexts chains count x =
     (x ≤ 16)
     × Going room (offer (covers rows) room (held n links₀ contexts₀) (candidates model (autOf (cell rule) head) (word .state) (word .parent) (ofPairs (word .context)))) (from (covers rows) room (atLetter model (autOf (cell rule) head) (word .state) (word .parent) (ofPairs (word .context))) 16 x)
-    links₀ links contexts₀ contexts latest₀ latest earlier₀ earlier count
+    links₀ links contexts₀ contexts chains₀ chains count
 
 abbrev μ-loop : tie.MeasureT-loop
-μ-loop links₀ contexts₀ latest₀ earlier₀ room n rows model rule head word count₀ x₀ links contexts latest earlier count x = 16 - x
+μ-loop links₀ contexts₀ chains₀ room n rows model rule head word count₀ x₀ links contexts chains count x = 16 - x
 
 loop-holds : tie.Need-loop-holds Inv-loop μ-loop
 unfolding candidates
-loop-holds c = (search needs, loop-start _ _ _ _ (c .before .before .before .before .pre .1))
+loop-holds c = (search needs, loop-start _ _ _ _ (c .before .before .before .pre .1))
 
 step-requires : tie.Need-step-requires Inv-loop μ-loop
 step-requires c κs = search needs
@@ -47,13 +47,10 @@ same-length-2 c = search needs
 same-length-3 : tie.Need-same-length-3 Inv-loop μ-loop
 same-length-3 c = search needs
 
-same-length-4 : tie.Need-same-length-4 Inv-loop μ-loop
-same-length-4 c = search needs
-
 returns : tie.Need-returns Inv-loop μ-loop
 returns c =
-    loop-full _ _ _ _ _ (c .before .before .before .before .before .before .before .before .before .before .before .before .before .before .before .before .before .loop .inv .1) (omega arith) (c .enum-told .given .1)
-    (offered-same _ _ _ (c .before .before .before .before .before .before .before .before .before .before .before .before .before .before .before .step .ensures .1) (c .before .before .before .before .before .before .before .before .before .before .by-letter .ensures))
+    loop-full _ _ _ _ _ (c .before .before .before .before .before .before .before .before .before .before .before .before .before .before .loop .inv .1) (omega arith) (c .enum-told .given .1)
+    (offered-same _ _ _ (c .before .before .before .before .before .before .before .before .before .before .before .before .step .ensures .1) (c .before .before .before .before .before .before .before .before .by-letter .ensures))
 
 add-x : tie.Need-add-x Inv-loop μ-loop
 add-x c = search needs
@@ -63,24 +60,21 @@ loop-less c = search needs
 
 loop-again : tie.Need-loop-again Inv-loop μ-loop
 loop-again c =
-    let called = c .before .before .before .before .before .before .before .before .before .before .before .by-letter in (
+    let called = c .before .before .before .before .before .before .before .before .before .by-letter in (
       search needs,
-      loop-on _ _ _ _ _ (c .before .before .before .before .before .before .before .before .before .before .before .before .before .before .before .before .before .before .loop .inv .1) (omega arith) (c .before .more .given .1)
-          (offered-same _ _ _ (c .before .before .before .before .before .before .before .before .before .before .before .before .before .before .before .before .step .ensures .1) (called .ensures))
-          (called .kept .0) (called .kept .1 .0) (called .kept .1 .1 .0) (called .kept .1 .1 .1 .0),
+      loop-on _ _ _ _ _ (c .before .before .before .before .before .before .before .before .before .before .before .before .before .before .before .loop .inv .1) (omega arith) (c .before .more .given .1)
+          (offered-same _ _ _ (c .before .before .before .before .before .before .before .before .before .before .before .before .before .step .ensures .1) (called .ensures))
+          (called .kept .0) (called .kept .1 .0) (called .kept .1 .1 .0),
     )
+
+same-length-4 : tie.Need-same-length-4 Inv-loop μ-loop
+same-length-4 c = search needs
 
 same-length-5 : tie.Need-same-length-5 Inv-loop μ-loop
 same-length-5 c = search needs
 
 same-length-6 : tie.Need-same-length-6 Inv-loop μ-loop
 same-length-6 c = search needs
-
-same-length-7 : tie.Need-same-length-7 Inv-loop μ-loop
-same-length-7 c = search needs
-
-same-length-8 : tie.Need-same-length-8 Inv-loop μ-loop
-same-length-8 c = search needs
 
 returns-2 : tie.Need-returns-2 Inv-loop μ-loop
 returns-2 c = loop-end _ _ _ _ _ (c .before .loop .inv .1) (c .loop-test .left)
@@ -99,13 +93,11 @@ expand-spec =
     same-length
     same-length-2
     same-length-3
-    same-length-4
     returns
     add-x
     loop-less
     loop-again
+    same-length-4
     same-length-5
     same-length-6
-    same-length-7
-    same-length-8
     returns-2)

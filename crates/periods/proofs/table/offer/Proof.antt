@@ -17,14 +17,14 @@ same-length-2 c = search needs
 same-length-3 : tie.Need-same-length-3
 same-length-3 c = search needs
 
-same-length-4 : tie.Need-same-length-4
-same-length-4 c = search needs
-
 returns : tie.Need-returns
-returns c = offered-covered _ (c .before .before .before .before .before .before .before .before .before .before .pre) _ (sym (c .before .covered .ensures) ∙ c .if1 .taken)
+returns c = offered-covered _ (c .before .before .before .before .before .before .before .before .pre) _ (sym (c .before .covered .ensures) ∙ c .if1 .taken)
 
 append-requires : tie.Need-append-requires
 append-requires c κs = search needs
+
+same-length-4 : tie.Need-same-length-4
+same-length-4 c = search needs
 
 same-length-5 : tie.Need-same-length-5
 same-length-5 c = search needs
@@ -32,14 +32,8 @@ same-length-5 c = search needs
 same-length-6 : tie.Need-same-length-6
 same-length-6 c = search needs
 
-same-length-7 : tie.Need-same-length-7
-same-length-7 c = search needs
-
-same-length-8 : tie.Need-same-length-8
-same-length-8 c = search needs
-
 returns-2 : tie.Need-returns-2
-returns-2 c = offered-new _ (c .before .before .before .before .before .before .before .before .before .before .before .before .before .before .before .before .before .before .before .before .before .before .before .pre) _ (sym (c .before .before .before .before .before .before .before .before .before .before .before .before .before .before .covered .ensures) ∙ c .before .before .before .before .before .before .before .before .before .before .before .before .before .if1 .left) (c .before .before .before .before .before .before .before .before .append .ensures)
+returns-2 c = offered-new _ (c .before .before .before .before .before .before .before .before .before .before .before .before .before .before .before .before .before .before .pre) _ (sym (c .before .before .before .before .before .before .before .before .before .before .before .covered .ensures) ∙ c .before .before .before .before .before .before .before .before .before .before .if1 .left) (c .before .before .before .before .before .before .append .ensures)
 
 pub offer-spec : {M : Type 1} → statement M
 offer-spec =
@@ -49,11 +43,9 @@ offer-spec =
     same-length
     same-length-2
     same-length-3
-    same-length-4
     returns
     append-requires
+    same-length-4
     same-length-5
     same-length-6
-    same-length-7
-    same-length-8
     returns-2)

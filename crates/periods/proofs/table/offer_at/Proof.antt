@@ -23,16 +23,13 @@ same-length-2 c = search needs
 same-length-3 : tie.Need-same-length-3
 same-length-3 c = search needs
 
-same-length-4 : tie.Need-same-length-4
-same-length-4 c = search needs
-
 returns : tie.Need-returns
 returns c =
-    offered-some _ (c .before .before .before .before .before .before .before .before .before .before .before .before .before .before .before .before .before .before .before .before .pre .1) _ _ (sym (c .before .before .before .before .before .before .before .before .before .before .before .before .before .before .before .has16 .ensures) ∙ c .before .before .before .before .before .before .before .before .before .before .before .before .before .before .if1 .taken)
-    (c .before .before .before .before .before .before .before .before .before .before .before .before .before .period-link .ensures) (c .before .before .before .before .before .before .before .before .offer .ensures)
+    offered-some _ (c .before .before .before .before .before .before .before .before .before .before .before .before .before .before .before .before .pre .1) _ _ (sym (c .before .before .before .before .before .before .before .before .before .before .before .before .has16 .ensures) ∙ c .before .before .before .before .before .before .before .before .before .before .before .if1 .taken)
+    (c .before .before .before .before .before .before .before .before .before .before .period-link .ensures) (c .before .before .before .before .before .before .offer .ensures)
 
 returns-2 : tie.Need-returns-2
-returns-2 c = offered-none _ (c .before .before .before .before .before .before .pre .1) _ _ (sym (c .before .has16 .ensures) ∙ c .if1 .left)
+returns-2 c = offered-none _ (c .before .before .before .before .before .pre .1) _ _ (sym (c .before .has16 .ensures) ∙ c .if1 .left)
 
 pub offer-at-spec : {M : Type 1} → statement M
 offer-at-spec =
@@ -44,6 +41,5 @@ offer-at-spec =
     same-length
     same-length-2
     same-length-3
-    same-length-4
     returns
     returns-2)

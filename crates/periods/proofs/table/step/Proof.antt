@@ -3,39 +3,28 @@ use Rattle.periods.proofs.Candidates.{move-letter, move-none}
 use borrow.Author.Needs.{needs}
 use Rattle.periods.proofs.table.step.Statement.{statement}
 use Rattle.periods.proofs.table.step.Tie as tie
-use Rattle.periods.proofs.table.step.Reads as reads
-use Rattle.periods.proofs.table.step.Lts as lts
-use Rattle.automata.proofs.eight.longer.Reads as longer-reads
 
--- src/table.rt:165:17
 cast-state : tie.Need-cast-state
 cast-state c = search needs
 
--- src/table.rt:166:22
 mul-successors : tie.Need-mul-successors
 mul-successors c = search needs
 
--- src/table.rt:166:22
 mul-successors-2 : tie.Need-mul-successors-2
 mul-successors-2 c = search needs
 
--- src/table.rt:166:22
 index-1-successors : tie.Need-index-1-successors
 index-1-successors c = search needs
 
--- src/table.rt:166:22
 index-2-successors : tie.Need-index-2-successors
 index-2-successors c = search needs
 
--- src/table.rt:169:9
 returns : tie.Need-returns
 returns c = (search needs, move-none _ _ _ _ _ _ _ (c .if1 .taken))
 
--- src/table.rt:180:18
 longer-requires : tie.Need-longer-requires
 longer-requires c κs = search needs
 
--- src/table.rt:160:1
 returns-2 : tie.Need-returns-2
 returns-2 c = (search needs, move-letter _ _ _ _ _ _ (c .longer .ensures))
 

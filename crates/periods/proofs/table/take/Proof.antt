@@ -20,13 +20,10 @@ same-length-2 c = search needs
 same-length-3 : tie.Need-same-length-3
 same-length-3 c = search needs
 
-same-length-4 : tie.Need-same-length-4
-same-length-4 c = search needs
-
 returns : tie.Need-returns
 returns c =
-    let at = c .before .before .before .before .before .before .before .before .before .before .before .before .before .word-at in
-    offered-same _ _ _ (word-entry _ _ _ (at .ensures .0) (at .ensures .1) (at .ensures .2)) (c .before .before .before .before .before .before .before .before .expand .ensures)
+    let at = c .before .before .before .before .before .before .before .before .before .before .word-at in
+    offered-same _ _ _ (word-entry _ _ _ (at .ensures .0) (at .ensures .1) (at .ensures .2)) (c .before .before .before .before .before .before .expand .ensures)
 
 pub take-spec : {M : Type 1} → statement M
 take-spec =
@@ -37,5 +34,4 @@ take-spec =
     same-length
     same-length-2
     same-length-3
-    same-length-4
     returns)

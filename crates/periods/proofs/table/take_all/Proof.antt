@@ -12,15 +12,15 @@ use Rattle.periods.proofs.table.take_all.Statement.{statement}
 use Rattle.periods.proofs.table.take_all.Tie as tie
 
 abbrev Inv-loop : tie.InvT-loop
-Inv-loop links₀ contexts₀ latest₀ earlier₀ room n rows model rule head count₀ i₀ links contexts latest earlier count i =
+Inv-loop links₀ contexts₀ chains₀ room n rows model rule head count₀ i₀ links contexts chains count i =
     Going room (grow (covers rows) (ofEntry model (autOf (cell rule) head)) room room 0 (held n links₀ contexts₀)) (taking (covers rows) (ofEntry model (autOf (cell rule) head)) room i)
-    links₀ links contexts₀ contexts latest₀ latest earlier₀ earlier count
+    links₀ links contexts₀ contexts chains₀ chains count
 
 abbrev μ-loop : tie.MeasureT-loop
-μ-loop links₀ contexts₀ latest₀ earlier₀ room n rows model rule head count₀ i₀ links contexts latest earlier count i = room - i
+μ-loop links₀ contexts₀ chains₀ room n rows model rule head count₀ i₀ links contexts chains count i = room - i
 
 loop-holds : tie.Need-loop-holds Inv-loop μ-loop
-loop-holds c = take-start _ _ _ (c .before .before .before .before .pre)
+loop-holds c = take-start _ _ _ (c .before .before .before .pre)
 
 take-requires : tie.Need-take-requires Inv-loop μ-loop
 take-requires c κs = search needs
@@ -40,13 +40,10 @@ same-length-2 c = search needs
 same-length-3 : tie.Need-same-length-3 Inv-loop μ-loop
 same-length-3 c = search needs
 
-same-length-4 : tie.Need-same-length-4 Inv-loop μ-loop
-same-length-4 c = search needs
-
 returns : tie.Need-returns Inv-loop μ-loop
 returns c =
-    take-full _ _ _ _ (c .before .before .before .before .before .before .before .before .before .before .before .before .before .before .before .before .loop .inv) (c .before .before .before .before .before .before .before .before .before .before .before .before .before .before .before .loop-test .taken) (c .enum-told .given .1)
-    (c .before .before .before .before .before .before .before .before .before .before .take .ensures)
+    take-full _ _ _ _ (c .before .before .before .before .before .before .before .before .before .before .before .before .before .loop .inv) (c .before .before .before .before .before .before .before .before .before .before .before .before .loop-test .taken) (c .enum-told .given .1)
+    (c .before .before .before .before .before .before .before .before .take .ensures)
 
 add-i : tie.Need-add-i Inv-loop μ-loop
 add-i c = search needs
@@ -56,21 +53,18 @@ loop-less c = search needs
 
 loop-again : tie.Need-loop-again Inv-loop μ-loop
 loop-again c =
-    let called = c .before .before .before .before .before .before .before .before .before .before .before .take in
-    take-on _ _ _ _ (c .before .before .before .before .before .before .before .before .before .before .before .before .before .before .before .before .before .loop .inv) (c .before .before .before .before .before .before .before .before .before .before .before .before .before .before .before .before .loop-test .taken) (c .before .more .given .1) (called .ensures)
-    (called .kept .0) (called .kept .1 .0) (called .kept .1 .1 .0) (called .kept .1 .1 .1 .0)
+    let called = c .before .before .before .before .before .before .before .before .before .take in
+    take-on _ _ _ _ (c .before .before .before .before .before .before .before .before .before .before .before .before .before .before .loop .inv) (c .before .before .before .before .before .before .before .before .before .before .before .before .before .loop-test .taken) (c .before .more .given .1) (called .ensures)
+    (called .kept .0) (called .kept .1 .0) (called .kept .1 .1 .0)
+
+same-length-4 : tie.Need-same-length-4 Inv-loop μ-loop
+same-length-4 c = search needs
 
 same-length-5 : tie.Need-same-length-5 Inv-loop μ-loop
 same-length-5 c = search needs
 
 same-length-6 : tie.Need-same-length-6 Inv-loop μ-loop
 same-length-6 c = search needs
-
-same-length-7 : tie.Need-same-length-7 Inv-loop μ-loop
-same-length-7 c = search needs
-
-same-length-8 : tie.Need-same-length-8 Inv-loop μ-loop
-same-length-8 c = search needs
 
 returns-2 : tie.Need-returns-2 Inv-loop μ-loop
 returns-2 c = take-end _ _ _ _ (c .before .loop .inv) (c .loop-test .left)
@@ -88,13 +82,11 @@ take-all-spec =
     same-length
     same-length-2
     same-length-3
-    same-length-4
     returns
     add-i
     loop-less
     loop-again
+    same-length-4
     same-length-5
     same-length-6
-    same-length-7
-    same-length-8
     returns-2)

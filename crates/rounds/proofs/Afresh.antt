@@ -1,0 +1,89 @@
+-- One round: the period table that was grown afresh in the lent tables, and what its lassos give. Assumes nothing.
+use mathlib.Core.Path.{_≡_, refl, sym, ap, ap₂, _∙_}
+use mathlib.Core.List.{List}
+use Prim.Native.Nat.{ℕ, _-_, _*_, max, _≤_}
+use native.Mathlib.Omega.{arith}
+use lib.ListN.{length, take, length-map}
+use Rattle.acceptance.specs.Lasso.{Aut}
+use Rattle.growth.specs.Grow.{Outcome, ended, entries}
+use Rattle.growth.specs.declared.Growth.{Growth}
+use Rattle.growth.specs.declared.Growth.the-variants.{Ended, Full}
+use Rattle.growth.proofs.Offering.{ended-is, full-is, take-over}
+use Rattle.periods.specs.Periods.{Period, periodTable}
+use Rattle.periods.specs.Lent.{linksOf, contextsOf, Leaves}
+use Rattle.periods.proofs.Lent.{contexts-length}
+use Rattle.rounds.specs.declared.Rounds.{Rounds}
+use Rattle.rounds.specs.declared.Rounds.the-variants.{Lacking}
+use Rattle.walk.specs.Walk.{Search, passed, rejected, search, pairsOf, accepts, searchRound}
+use Rattle.rounds.specs.Pairs.{Few}
+use Rattle.rounds.specs.Course.{judged, roundOf, answered, Answers, Ready}
+use Rattle.walk.proofs.Cut.{periods}
+use Rattle.rounds.proofs.Course.{round-ended, round-full}
+
+-- ---- the parts that hold the entries
+
+-- n entries: the links and the contexts are exactly the first of what was lent
+pub record Holds (v : List Period) (n : ℕ) (links contexts : List ℕ) : Type 0 where
+  pub count : length v ≡ n
+  pub links-part : take (n - 0) links ≡ linksOf v
+  pub contexts-part : take (2 * n - 0) contexts ≡ contextsOf v
+
+pub holds : (o : Outcome Period) {n : ℕ} {r : Growth} {links₀ links contexts₀ contexts : List ℕ} → Leaves o r links₀ links contexts₀ contexts → r ≡ Ended n
+    → (o ≡ ended (entries o)) × Holds (entries o) n links contexts
+holds o {n} {links₀ = links₀} {contexts₀ = contexts₀} h e =
+    let (is, count) = ended-is o (sym e ∙ h .answer) in
+    let long : n - 0 ≡ length (linksOf (entries o)) = omega (arith, length-map (entries o) (λ (p : Period). p .link)) in
+    let wide : 2 * n - 0 ≡ length (contextsOf (entries o)) = omega (arith, contexts-length (entries o)) in (
+      is,
+      record {
+        count = count;
+        links-part = ap₂ (λ (k : ℕ) (l : List ℕ). take k l) long (h .links-left) ∙ take-over (linksOf (entries o)) links₀;
+        contexts-part = ap₂ (λ (k : ℕ) (l : List ℕ). take k l) wide (h .contexts-left) ∙ take-over (contextsOf (entries o)) contexts₀;
+      },
+    )
+
+judged-ran : (v : List Period) (p : ℕ) (o : Search) {r : Rounds} {links : List ℕ} → r ≡ answered (length v) p o → take (length (linksOf v)) links ≡ linksOf v → Answers (judged v p o) r links
+judged-ran v p (passed t) e k = record { answer = e; kept = refl }
+judged-ran v p (rejected t i j) e k = record { answer = e; kept = k }
+
+module _ (A B : Aut) (room s rows : ℕ) {g : Growth} {links₀ links contexts₀ contexts : List ℕ} (h : Leaves (periodTable A B s rows room) g links₀ links contexts₀ contexts) where
+  pub table-within : {n : ℕ} → g ≡ Ended n → n ≤ room
+  table-within e = omega (arith, holds (periodTable A B s rows room) h e .1 .count, periods A B s rows .within room)
+
+  -- and the lassos can be tested
+  pub judge-ready : {u scratch₀ scratch : List ℕ} {t n : ℕ} → Ready room t u links₀ contexts₀ scratch₀ → length scratch ≡ length scratch₀ → g ≡ Ended n
+      → Few u (take (n - 0) links) scratch t × (2 * length (take (n - 0) links) ≤ length (take (2 * n - 0) contexts))
+  judge-ready {n = n} ready kept e =
+      let v = entries (periodTable A B s rows room) in
+      let h = holds (periodTable A B s rows room) h e .1 in
+      let low = table-within e in
+      let long : length (take (n - 0) links) ≡ length v = ap length (h .links-part) ∙ length-map v (λ (q : Period). q .link) in
+      let wide : length (take (2 * n - 0) contexts) ≡ 2 * length v = ap length (h .contexts-part) ∙ contexts-length v in (
+        record {
+          stems = ready .stems;
+          periods = omega (arith, h .count, ready .short);
+          sets-fit = omega (arith, h .count, ready .scratch-fits);
+          tests = ready .few;
+        },
+        omega arith,
+      )
+
+  pub ended-ran : (u : List ℕ) (p t : ℕ) {n : ℕ} {r : Rounds} → g ≡ Ended n
+      → r ≡ answered (length (take (n - 0) links)) p (search (accepts u (take (2 * n - 0) contexts)) (pairsOf u s rows (take (n - 0) links)) t)
+      → Answers (roundOf A B u room (s, rows) p t) r links
+  ended-ran u p t {n} {r} e a =
+      let v = entries (periodTable A B s rows room) in
+      let (is, h) = holds (periodTable A B s rows room) h e in
+      let long : length (linksOf v) ≡ length v = length-map v (λ (q : Period). q .link) in
+      let all : length (linksOf v) ≡ n - 0 = omega (arith, h .count) in
+      let kept : take (length (linksOf v)) links ≡ linksOf v = ap (λ (k : ℕ). take k links) all ∙ h .links-part in
+      rw (round-ended A B u room s rows p t is)
+      (judged-ran v p (searchRound u (s, rows) v t)
+      (a ∙ ap₂ (λ (l c : List ℕ). answered (length l) p (search (accepts u c) (pairsOf u s rows l) t)) (h .links-part) (h .contexts-part)
+      ∙ ap (λ (k : ℕ). answered k p (searchRound u (s, rows) v t)) long)
+      kept)
+
+  pub full-ran : (u : List ℕ) (p t : ℕ) {m : ℕ} → g ≡ Full → m ≡ max p room → Answers (roundOf A B u room (s, rows) p t) (Lacking m t) links
+  full-ran u p t e m =
+      let is = full-is (periodTable A B s rows room) (sym e ∙ h .answer) in
+      rw (round-full A B u room s rows p t is, periods A B s rows .filled room _ is) (record { answer = ap (λ (k : ℕ). Lacking k t) m; kept = refl })

@@ -1,0 +1,102 @@
+-- The rounds in parts, and the tests of each by the sets that are put: the walk's finish is read off their course. Assumes nothing.
+use mathlib.Core.Path.{_≡_, refl, ap, ap₂}
+use mathlib.Core.Bool.{Bool, true, false}
+use mathlib.Core.List.{List, [], _∷_, _++_, List·Memᴰ, List·Memᴰ·head, List·Memᴰ·tail}
+use Prim.Native.Nat.{ℕ, suc, max}
+use lib.Dec.{eqb}
+use lib.ListN.{length, getD}
+use Rattle.bits.specs.Sets.{meets}
+use Rattle.bits.specs.Fields.{stemTarget, linkState}
+use Rattle.bits.proofs.Truth.{and-right}
+use Rattle.acceptance.specs.Lasso.{Aut}
+use Rattle.growth.specs.Grow.{Outcome, ended, full}
+use Rattle.growth.proofs.Steps.{steps-mem}
+use Rattle.periods.specs.Periods.{Period, periodTable}
+use Rattle.walk.specs.Walk.{Search, passed, rejected, search, fits, pairsOf, accepts, searchRound, run}
+use Rattle.rounds.specs.Pairs.{meeting, Accepting}
+use Rattle.rounds.specs.Course.{Course, through, lacking, found, along, judged, roundOf, course, finishOf}
+
+-- ---- tests that agree on the pairs
+
+search-same : (f g : ℕ → ℕ → Bool) (cs : List (ℕ × ℕ)) (t : ℕ) → ((c : ℕ × ℕ) → List·Memᴰ c cs → f (c .0) (c .1) ≡ g (c .0) (c .1)) → search f cs t ≡ search g cs t
+unfolding search
+search-same f g [] t h = refl
+search-same f g (c ∷ cs) t h =
+    ap₂ (λ (b : Bool) (o : Search). elim b [ true ↦ o | false ↦ rejected (suc t) (c .0) (c .1) ]) (h c (List·Memᴰ·head refl))
+    (search-same f g cs (suc t) (λ d m. h d (List·Memᴰ·tail m)))
+
+-- the sets that are put are those of the periods that are tested
+pub sets-serve : (u : List ℕ) (s rows : ℕ) (links : List ℕ) {contexts sets : List ℕ} (t : ℕ) → Accepting s (length links) links contexts sets
+    → search (meeting u sets) (pairsOf u s rows links) t ≡ search (accepts u contexts) (pairsOf u s rows links) t
+unfolding meeting accepts pairsOf
+sets-serve u s rows links {contexts} {sets} t known = search-same (meeting u sets) (accepts u contexts) (pairsOf u s rows links) t same
+  where
+    same : (c : ℕ × ℕ) → List·Memᴰ c (pairsOf u s rows links) → meeting u sets (c .0) (c .1) ≡ accepts u contexts (c .0) (c .1)
+    same c m =
+        let (i, j, _, l, b, e) = steps-mem {E = ℕ × ℕ} (length u) (length links) _ (λ i j. (i, j)) m in
+        rw e (ap (λ (x : ℕ). meets 8 (stemTarget (getD u i 0)) x) (known .set-at j l (and-right (fits s rows (getD u i 0)) (eqb (linkState (getD links j 0)) s) b)))
+
+module _ (A B : Aut) (u : List ℕ) where
+  -- ---- one round
+
+  module _ (room s rows p t : ℕ) where
+    pub round-ended : {v : List Period} → periodTable A B s rows room ≡ ended v
+        → roundOf A B u room (s, rows) p t ≡ judged v p (searchRound u (s, rows) v t)
+    unfolding roundOf
+    round-ended e = rw (e, roundOf)
+
+    pub round-full : {v : List Period} → periodTable A B s rows room ≡ full v → roundOf A B u room (s, rows) p t ≡ lacking (max p (length v)) t
+    unfolding roundOf
+    round-full e = rw (e, roundOf)
+
+  -- ---- more rounds
+
+  module _ (room : ℕ) where
+    pub course-append : (cs ds : List (ℕ × ℕ)) (p t : ℕ) → course A B u room (cs ++ ds) p t ≡ along (course A B u room cs p t) (course A B u room ds)
+    unfolding course
+    course-append [] ds p t = refl
+    course-append (c ∷ cs) ds p t = at (roundOf A B u room c p t) (course-append cs ds)
+      where
+        at : (o : Course) → ((p t : ℕ) → course A B u room (cs ++ ds) p t ≡ along (course A B u room cs p t) (course A B u room ds))
+            → along o (course A B u room (cs ++ ds)) ≡ along (along o (course A B u room cs)) (course A B u room ds)
+        at (through p t) ih = ih p t
+        at (lacking p t) ih = refl
+        at (found v i j p t) ih = refl
+
+    pub course-one : (c : ℕ × ℕ) (p t : ℕ) → course A B u room (c ∷ []) p t ≡ roundOf A B u room c p t
+    unfolding course
+    course-one c p t = at (roundOf A B u room c p t)
+      where
+        at : (o : Course) → along o (course A B u room []) ≡ o
+        at (through p t) = refl
+        at (lacking p t) = refl
+        at (found v i j p t) = refl
+
+    -- the finish of the rounds
+    pub run-course : (cs : List (ℕ × ℕ)) (p t : ℕ) → run A B u room cs p t ≡ finishOf u (course A B u room cs p t)
+    unfolding run course roundOf
+    run-course [] p t = refl
+    run-course (c ∷ cs) p t = at (periodTable A B (c .0) (c .1) room) (run-course cs)
+      where
+        go : (v : List Period) (o : Search) → ((p t : ℕ) → run A B u room cs p t ≡ finishOf u (course A B u room cs p t))
+            → elim o [
+              | passed k ↦ run A B u room cs (max p (length v)) k
+              | rejected k i j ↦ finishOf u (found v i j (max p (length v)) k)
+            ] ≡ finishOf u (along (judged v p o) (course A B u room cs))
+        go v (passed k) ih = ih (max p (length v)) k
+        go v (rejected k i j) ih = refl
+
+        at : (o : Outcome Period) → ((p t : ℕ) → run A B u room cs p t ≡ finishOf u (course A B u room cs p t))
+            → elim o [
+              | full v ↦ finishOf u (lacking (max p (length v)) t)
+              | ended v ↦
+                  elim (searchRound u c v t) [
+                    | passed k ↦ run A B u room cs (max p (length v)) k
+                    | rejected k i j ↦ finishOf u (found v i j (max p (length v)) k)
+                  ]
+            ] ≡ finishOf u (along (elim o [
+              | full v ↦ lacking (max p (length v)) t
+              | ended v ↦ judged v p (searchRound u c v t)
+            ]) (course A B u room cs))
+        at (full v) ih = refl
+        at (ended v) ih = go v (searchRound u c v t) ih

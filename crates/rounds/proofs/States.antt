@@ -1,0 +1,67 @@
+-- Which rounds there are: by the states of A, and by the entries of W. Assumes nothing.
+use mathlib.Core.Path.{_≡_, refl, ap, _∙_}
+use mathlib.Core.Bool.{Bool, true, false, _&&_, _||_, or-false}
+use mathlib.Core.List.{List, [], _∷_}
+use Prim.Native.Nat.{ℕ, zero, suc, _≤_}
+use native.Mathlib.Omega.{arith}
+use lib.Dec.{eqb}
+use lib.ListN.{length, getD, length-append}
+use Rattle.bits.specs.Bits.{bit, any}
+use Rattle.bits.specs.Fields.{stemState, stemTarget}
+use Rattle.bits.proofs.Quantifiers.{any-none}
+use Rattle.acceptance.specs.Lasso.{Aut}
+use Rattle.growth.specs.Steps.{gather, only, steps}
+use Rattle.automata.specs.Loaded.{autOf}
+use Rattle.automata.specs.declared.Head.{Head}
+use Rattle.walk.specs.Walk.{opening, rounds}
+use Rattle.rounds.specs.Course.{roundAt, roundFor, roundsAt}
+use Rattle.rounds.proofs.Gathered.{gather-nothing}
+
+-- no transition of a loaded automaton is itself accepting, so a period may start at the accepting states
+pub opening-is : (rows : ℕ → ℕ → ℕ) (head : Head) (s : ℕ) → opening (autOf rows head) s ≡ bit (head .accepting) s
+unfolding opening autOf
+opening-is rows head s =
+    ap (λ (b : Bool). bit (head .accepting) s || b)
+    (any-none (λ x. any (λ q. bit (rows x s) q && false) 16) 16 (λ x l. any-none (λ q. bit (rows x s) q && false) 16 (λ q m. and-none (bit (rows x s) q))))
+    ∙ or-false (bit (head .accepting) s)
+  where
+    and-none : (b : Bool) → (b && false) ≡ false
+    and-none true = refl
+    and-none false = refl
+
+pub rounds-are : (A B : Aut) (w : List ℕ) → rounds A B w ≡ gather 0 16 (roundsAt A w)
+unfolding rounds steps roundsAt roundFor roundAt
+rounds-are A B w = refl
+
+-- ---- at a state that is not accepting, and of an entry at another state: none
+
+pub no-rounds : (A : Aut) (w : List ℕ) (s : ℕ) → opening A s ≡ false → roundsAt A w s ≡ []
+unfolding roundsAt roundFor roundAt
+no-rounds A w s h = gather-nothing (roundFor A w s) 0 (length w) (λ k. rw h)
+
+pub no-round : (A : Aut) (s e : ℕ) → opening A s ≡ true → eqb (stemState e) s ≡ false → roundAt A s e ≡ []
+unfolding roundAt
+no-round A s e o h = rw (o, h)
+
+pub one-round : (A : Aut) (s e : ℕ) → opening A s ≡ true → eqb (stemState e) s ≡ true → roundAt A s e ≡ (s, stemTarget e) ∷ []
+unfolding roundAt
+one-round A s e o h = rw (o, h)
+
+-- ---- how many
+
+pub round-count : (A : Aut) (w : List ℕ) (s k : ℕ) → length (roundFor A w s k) ≤ 1
+unfolding roundFor roundAt
+round-count A w s k = at (opening A s && eqb (stemState (getD w k 0)) s)
+  where
+    at : (b : Bool) → length (only {E = ℕ × ℕ} b (s, stemTarget (getD w k 0))) ≤ 1
+    at true = omega arith
+    at false = omega arith
+
+gather-count : {E : Type 0} (f : ℕ → List E) (i n : ℕ) → ((k : ℕ) → length (f k) ≤ 1) → length (gather i n f) ≤ n
+unfolding gather
+gather-count f i zero h = omega arith
+gather-count f i (suc n) h = omega (arith, length-append (f i) (gather (suc i) n f), h i, gather-count f (suc i) n h)
+
+pub rounds-count : (A : Aut) (w : List ℕ) (s : ℕ) → length (roundsAt A w s) ≤ length w
+unfolding roundsAt
+rounds-count A w s = gather-count (roundFor A w s) 0 (length w) (round-count A w s)

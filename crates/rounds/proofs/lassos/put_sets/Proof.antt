@@ -1,0 +1,52 @@
+-- `lassos::put_sets` meets its contract. The loop's invariant: the sets of the first j periods are there. Assumes nothing.
+use native.Mathlib.Nat.{le-antisymm}
+use native.Mathlib.Omega.{arith}
+use mathlib.Core.Path.{_≡_, refl}
+use Rattle.rounds.specs.Pairs.{Accepting}
+use mathlib.Core.Path.{_≡_}
+use borrow.Author.Needs.{needs}
+use Prim.Native.Nat.{_≤_, _-_}
+use lib.ListN.{length}
+use Rattle.rounds.proofs.lassos.put_sets.Statement.{statement}
+use Rattle.rounds.proofs.lassos.put_sets.Tie as tie
+
+abbrev Inv-loop : tie.InvT-loop
+Inv-loop links contexts s sets₀ j₀ sets j = (j ≤ length links) × (length sets ≡ length sets₀) × Accepting s j links contexts sets
+
+abbrev μ-loop : tie.MeasureT-loop
+μ-loop links contexts s sets₀ j₀ sets j = length links - j
+
+loop-holds : tie.Need-loop-holds Inv-loop μ-loop
+loop-holds c = (search needs, refl, record { set-at = λ j l. absurd (omega arith) })
+
+put-set-requires : tie.Need-put-set-requires Inv-loop μ-loop
+put-set-requires c κs = search needs
+
+add-j : tie.Need-add-j Inv-loop μ-loop
+add-j c = search needs
+
+loop-less : tie.Need-loop-less Inv-loop μ-loop
+loop-less c = search needs
+
+loop-again : tie.Need-loop-again Inv-loop μ-loop
+loop-again c = (search needs, search needs, c .before .before .put-set .ensures)
+
+same-length : tie.Need-same-length Inv-loop μ-loop
+same-length c = search needs
+
+returns : tie.Need-returns Inv-loop μ-loop
+returns c = rw (le-antisymm (c .before .loop .inv .0) (c .loop-test .left)) at (c .before .loop .inv .2)
+
+pub put-sets-spec : {M : Type 1} → statement M
+put-sets-spec =
+    tie.close
+    (tie.spec
+    Inv-loop
+    μ-loop
+    loop-holds
+    put-set-requires
+    add-j
+    loop-less
+    loop-again
+    same-length
+    returns)

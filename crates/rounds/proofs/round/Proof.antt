@@ -1,0 +1,140 @@
+-- `round::round` meets its contract. Assumes nothing.
+use Rattle.rounds.proofs.States.{opening-is, no-round, one-round}
+use Rattle.rounds.proofs.Onward.{none-ran, one-ran}
+use Rattle.rounds.proofs.Afresh.{table-within, judge-ready, full-ran, ended-ran}
+use Rattle.automata.specs.Loaded.{cell, autOf}
+use Rattle.bits.specs.Fields.{stemState}
+use borrow.Author.Tests.{eq-eqb, ne-eqb}
+use native.Mathlib.Omega.{arith}
+use Prim.Native.Nat.{ℕ}
+use mathlib.Core.List.{[], _∷_}
+use mathlib.Core.Path.{sym, ap, _∙_}
+use borrow.Author.Needs.{needs}
+use Rattle.rounds.proofs.round.Statement.{statement}
+use Rattle.rounds.proofs.round.Tie as tie
+
+stem-state-requires : tie.Need-stem-state-requires
+stem-state-requires c κs = search needs
+
+returns : tie.Need-returns
+returns c =
+    let start = c .before .before .before .before .before .before in
+    let args = start .args in
+    none-ran (autOf (cell (args .model .now)) (args .model-head)) (autOf (cell (args .rule .now)) (args .rule-head)) (args .stems .now) (args .room)
+    (no-round (autOf (cell (args .model .now)) (args .model-head)) (args .s) (args .entry) (opening-is (cell (args .model .now)) (args .model-head) (args .s) ∙ start .pre .1 .1) (ne-eqb (stemState (args .entry)) (args .s) (λ e. c .if1 .taken (c .before .stem-state .ensures ∙ e))))
+    (args .p) (args .t)
+
+stem-target-requires : tie.Need-stem-target-requires
+stem-target-requires c κs = search needs
+
+grow-requires : tie.Need-grow-requires
+grow-requires c κs = search needs
+
+enum-known-grown : tie.Need-enum-known-grown
+enum-known-grown c = search needs
+
+enum-told : tie.Need-enum-told
+enum-told c = search needs
+
+larger-requires : tie.Need-larger-requires
+larger-requires c κs = search needs
+
+same-length : tie.Need-same-length
+same-length c = search needs
+
+same-length-2 : tie.Need-same-length-2
+same-length-2 c = search needs
+
+same-length-3 : tie.Need-same-length-3
+same-length-3 c = search needs
+
+returns-2 : tie.Need-returns-2
+returns-2 c =
+    let start = c .before .before .before .before .before .before .before .before .before .before .before .before .before .before .before .before .before .before .before .before in
+    let args = start .args in
+    one-ran (autOf (cell (args .model .now)) (args .model-head)) (autOf (cell (args .rule .now)) (args .rule-head)) (args .stems .now) (args .room) (args .p) (args .t)
+    (one-round (autOf (cell (args .model .now)) (args .model-head)) (args .s) (args .entry) (opening-is (cell (args .model .now)) (args .model-head) (args .s) ∙ start .pre .1 .1) (eq-eqb (stemState (args .entry)) (args .s) (sym (c .before .before .before .before .before .before .before .before .before .before .before .before .before .before .before .stem-state .ensures) ∙ c .before .before .before .before .before .before .before .before .before .before .before .before .before .before .if1 .left))
+    ∙ ap (λ (x : ℕ). (args .s, x) ∷ []) (sym (c .before .before .before .before .before .before .before .before .before .before .before .before .before .stem-target .ensures)))
+    (full-ran (autOf (cell (args .model .now)) (args .model-head)) (autOf (cell (args .rule .now)) (args .rule-head)) (args .room) (args .s) (c .before .before .before .before .before .before .before .before .before .before .before .before .before .stem-target .result) (c .before .before .before .before .before .before .before .before .before .grow .ensures) (args .stems .now) (args .p) (args .t) (c .before .enum-told .given .1) (c .larger .ensures))
+
+sub-judge : tie.Need-sub-judge
+sub-judge c = search needs
+
+part-judge-start : tie.Need-part-judge-start
+part-judge-start c = search needs
+
+part-judge-end : tie.Need-part-judge-end
+part-judge-end c =
+    let start = c .before .before .before .before .before .before .before .before .before .before .before .before .before .before .before .before .before .before .before .before .before in
+    let args = start .args in
+    omega (arith, table-within (autOf (cell (args .model .now)) (args .model-head)) (autOf (cell (args .rule .now)) (args .rule-head)) (args .room) (args .s) (c .before .before .before .before .before .before .before .before .before .before .before .before .before .before .stem-target .result) (c .before .before .before .before .before .before .before .before .before .before .grow .ensures) (c .before .before .grown .given .1))
+
+mul-judge : tie.Need-mul-judge
+mul-judge c =
+    let start = c .before .before .before .before .before .before .before .before .before .before .before .before .before .before .before .before .before .before .before .before .before .before in
+    let args = start .args in
+    omega (arith, table-within (autOf (cell (args .model .now)) (args .model-head)) (autOf (cell (args .rule .now)) (args .rule-head)) (args .room) (args .s) (c .before .before .before .before .before .before .before .before .before .before .before .before .before .before .before .stem-target .result) (c .before .before .before .before .before .before .before .before .before .before .before .grow .ensures) (c .before .before .before .grown .given .1), start .pre .0 .short)
+
+sub-judge-2 : tie.Need-sub-judge-2
+sub-judge-2 c = search needs
+
+part-judge-start-2 : tie.Need-part-judge-start-2
+part-judge-start-2 c = search needs
+
+part-judge-end-2 : tie.Need-part-judge-end-2
+part-judge-end-2 c =
+    let start = c .before .before .before .before .before .before .before .before .before .before .before .before .before .before .before .before .before .before .before .before .before .before .before in
+    let args = start .args in
+    omega (arith, table-within (autOf (cell (args .model .now)) (args .model-head)) (autOf (cell (args .rule .now)) (args .rule-head)) (args .room) (args .s) (c .before .before .before .before .before .before .before .before .before .before .before .before .before .before .before .before .stem-target .result) (c .before .before .before .before .before .before .before .before .before .before .before .before .grow .ensures) (c .before .before .before .before .grown .given .1))
+
+judge-requires : tie.Need-judge-requires
+judge-requires c κs =
+    let start = c .before .before .before .before .before .before .before .before .before .before .before .before .before .before .before .before .before .before .before .before .before .before .before .before .before in
+    let args = start .args in
+    judge-ready (autOf (cell (args .model .now)) (args .model-head)) (autOf (cell (args .rule .now)) (args .rule-head)) (args .room) (args .s) (c .before .before .before .before .before .before .before .before .before .before .before .before .before .before .before .before .before .before .stem-target .result) (c .before .before .before .before .before .before .before .before .before .before .before .before .before .before .grow .ensures) (start .pre .0) (c .before .before .before .before .before .before .before .before .before .before .before .before .before .before .grow .kept .1 .1 .0) (c .before .before .before .before .before .before .grown .given .1)
+
+same-length-4 : tie.Need-same-length-4
+same-length-4 c = search needs
+
+same-length-5 : tie.Need-same-length-5
+same-length-5 c = search needs
+
+same-length-6 : tie.Need-same-length-6
+same-length-6 c = search needs
+
+returns-3 : tie.Need-returns-3
+returns-3 c =
+    let start = c .before .before .before .before .before .before .before .before .before .before .before .before .before .before .before .before .before .before .before .before .before .before .before .before .before .before .before .before in
+    let args = start .args in
+    one-ran (autOf (cell (args .model .now)) (args .model-head)) (autOf (cell (args .rule .now)) (args .rule-head)) (args .stems .now) (args .room) (args .p) (args .t)
+    (one-round (autOf (cell (args .model .now)) (args .model-head)) (args .s) (args .entry) (opening-is (cell (args .model .now)) (args .model-head) (args .s) ∙ start .pre .1 .1) (eq-eqb (stemState (args .entry)) (args .s) (sym (c .before .before .before .before .before .before .before .before .before .before .before .before .before .before .before .before .before .before .before .before .before .before .before .stem-state .ensures) ∙ c .before .before .before .before .before .before .before .before .before .before .before .before .before .before .before .before .before .before .before .before .before .before .if1 .left))
+    ∙ ap (λ (x : ℕ). (args .s, x) ∷ []) (sym (c .before .before .before .before .before .before .before .before .before .before .before .before .before .before .before .before .before .before .before .before .before .stem-target .ensures)))
+    (ended-ran (autOf (cell (args .model .now)) (args .model-head)) (autOf (cell (args .rule .now)) (args .rule-head)) (args .room) (args .s) (c .before .before .before .before .before .before .before .before .before .before .before .before .before .before .before .before .before .before .before .before .before .stem-target .result) (c .before .before .before .before .before .before .before .before .before .before .before .before .before .before .before .before .before .grow .ensures) (args .stems .now) (args .p) (args .t) (c .before .before .before .before .before .before .before .before .before .grown .given .1) (c .before .before .judge .ensures))
+
+pub round-spec : {M : Type 1} → statement M
+round-spec =
+    tie.close
+    (tie.spec
+    stem-state-requires
+    returns
+    stem-target-requires
+    grow-requires
+    enum-known-grown
+    enum-told
+    larger-requires
+    same-length
+    same-length-2
+    same-length-3
+    returns-2
+    sub-judge
+    part-judge-start
+    part-judge-end
+    mul-judge
+    sub-judge-2
+    part-judge-start-2
+    part-judge-end-2
+    judge-requires
+    same-length-4
+    same-length-5
+    same-length-6
+    returns-3)

@@ -1,0 +1,271 @@
+//! The rounds: for each accepting state s of the model, and each entry of W at s, a period table built afresh and the lassos tested. The counts so
+//! far go with them: p, the most entries that a period table had, and t, the tests made.
+ghost use mathlib.Core.Path.{_≡_};
+ghost use mathlib.Core.Bool.{true};
+ghost use Prim.Native.Nat.{_*_, _^_, max, _<_, _≤_};
+ghost use lib.ListN.{length};
+ghost use Rattle.bits.specs.Bits.{bit};
+ghost use Rattle.automata.specs.Loaded.{cell, autOf};
+ghost use Rattle.walk.specs.Walk.{search, pairsOf, accepts, rounds};
+ghost use Rattle.rounds.specs.Pairs.{Few};
+ghost use Rattle.rounds.specs.Course.{course, answered, roundAt, roundsAt, Answers, Ready};
+use automata::Head;
+use bits::entries;
+use bits::members;
+use growth::Growth;
+
+mod lassos;
+
+// No lasso was rejected; a period table lacks room; or a lasso was rejected, of the stem and the period at these indices, in a table of that size.
+pub enum Rounds {
+    Through {
+        p: usize,
+        t: usize,
+    },
+    Lacking {
+        p: usize,
+        t: usize,
+    },
+    Found {
+        p: usize,
+        t: usize,
+        stem: usize,
+        period: usize,
+        size: usize,
+    },
+}
+
+fn larger(a: usize, b: usize) -> usize
+    ensures { λ r. ⌜ r ≡ max a b ⌝ }
+{
+    if a < b {
+        return b;
+    }
+    a
+}
+
+// Tests the lassos of a period table that is there, with the set of each of its periods found once and kept in the scratch.
+fn judge(
+    stems: &[u32],
+    links: &[u32],
+    contexts: &[u64],
+    scratch: &mut [u16],
+    s: u8,
+    target: u8,
+    before: usize,
+    t: usize,
+) -> Rounds
+    requires { ⌜ Few (now stems) (now links) (now scratch) t ⌝ }
+    requires { ⌜ 2 * length (now links) ≤ length (now contexts) ⌝ }
+    ensures { λ r. ⌜ r ≡ answered (length (now (links .entry))) before
+        (search (accepts (now (stems .entry)) (now (contexts .entry))) (pairsOf (now (stems .entry)) s target (now (links .entry))) t) ⌝ }
+{
+    lassos::put_sets(links, contexts, s, scratch);
+    let size = links.len();
+    let p = larger(before, size);
+    match lassos::search(stems, links, scratch, s, target, t) {
+        lassos::Found::Passed(tests) => Rounds::Through { p, t: tests },
+        lassos::Found::Rejected {
+            tests,
+            stem,
+            period,
+        } => Rounds::Found {
+            p,
+            t: tests,
+            stem,
+            period,
+            size,
+        },
+    }
+}
+
+// The round of an entry of W, if it is at s: the period table afresh, then its lassos.
+fn round(
+    stems: &[u32],
+    entry: u32,
+    links: &mut [u32],
+    contexts: &mut [u64],
+    scratch: &mut [u16],
+    room: usize,
+    s: u8,
+    model: &[[u16; 16]; 16],
+    model_head: Head,
+    rule: &[[u8; 8]; 16],
+    rule_head: Head,
+    p: usize,
+    t: usize,
+) -> Rounds
+    requires { ⌜ Ready room t (now stems) (now links) (now contexts) (now scratch) ⌝ }
+    requires { ⌜ (s < 16) × (bit («model_head» .accepting) s ≡ true) ⌝ }
+    ensures { λ r. ⌜ Answers (course (autOf (cell (now (model .entry))) «model_head») (autOf (cell (now (rule .entry))) «rule_head») (now (stems .entry)) room (roundAt (autOf (cell (now (model .entry))) «model_head») s entry) p t) r (now (links .exit)) ⌝ }
+{
+    if entries::stem_state(entry) != s {
+        return Rounds::Through { p, t };
+    }
+    let target = entries::stem_target(entry);
+    let grown = periods::grow(
+        links,
+        contexts,
+        scratch,
+        room,
+        s,
+        target,
+        model,
+        model_head,
+        rule,
+        rule_head,
+    );
+    let Growth::Ended(n) = grown else {
+        return Rounds::Lacking {
+            p: larger(p, room),
+            t,
+        };
+    };
+    judge(
+        stems,
+        &links[0..n],
+        &contexts[0..2 * n],
+        scratch,
+        s,
+        target,
+        p,
+        t,
+    )
+}
+
+// The rounds of a state: if it is accepting, those of the entries of W, in table order.
+fn at_state(
+    stems: &[u32],
+    largest: &[u32],
+    links: &mut [u32],
+    contexts: &mut [u64],
+    scratch: &mut [u16],
+    room: usize,
+    s: u8,
+    model: &[[u16; 16]; 16],
+    model_head: Head,
+    rule: &[[u8; 8]; 16],
+    rule_head: Head,
+    p_before: usize,
+    t_before: usize,
+) -> Rounds
+    requires { ⌜ Ready room «t_before» (now stems) (now links) (now contexts) (now scratch) ⌝ }
+    requires { ⌜ (s < 16) × (length (now largest) ≤ 4096) × («t_before» ≤ 2 ^ 48) ⌝ }
+    ensures { λ r. ⌜ Answers (course (autOf (cell (now (model .entry))) «model_head») (autOf (cell (now (rule .entry))) «rule_head») (now (stems .entry)) room (roundsAt (autOf (cell (now (model .entry))) «model_head») (now (largest .entry)) s) «p_before» «t_before») r (now (links .exit)) ⌝ }
+{
+    let mut p = p_before;
+    let mut t = t_before;
+    if !members::has16(model_head.accepting, s as usize) {
+        return Rounds::Through { p, t };
+    }
+    let mut k = 0;
+    while k < largest.len() {
+        let r = round(
+            stems,
+            largest[k],
+            links,
+            contexts,
+            scratch,
+            room,
+            s,
+            model,
+            model_head,
+            rule,
+            rule_head,
+            p,
+            t,
+        );
+        let Rounds::Through {
+            p: p_next,
+            t: t_next,
+        } = r
+        else {
+            return r;
+        };
+        p = p_next;
+        t = t_next;
+        k += 1;
+    }
+    Rounds::Through { p, t }
+}
+
+// The rounds of each state, rising.
+fn at_states(
+    stems: &[u32],
+    largest: &[u32],
+    links: &mut [u32],
+    contexts: &mut [u64],
+    scratch: &mut [u16],
+    room: usize,
+    model: &[[u16; 16]; 16],
+    model_head: Head,
+    rule: &[[u8; 8]; 16],
+    rule_head: Head,
+) -> Rounds
+    requires { ⌜ Ready room 0 (now stems) (now links) (now contexts) (now scratch) ⌝ }
+    requires { ⌜ length (now largest) ≤ 4096 ⌝ }
+    ensures { λ r. ⌜ Answers (course (autOf (cell (now (model .entry))) «model_head») (autOf (cell (now (rule .entry))) «rule_head») (now (stems .entry)) room (rounds (autOf (cell (now (model .entry))) «model_head») (autOf (cell (now (rule .entry))) «rule_head») (now (largest .entry))) 0 0) r (now (links .exit)) ⌝ }
+{
+    let mut p = 0;
+    let mut t = 0;
+    let mut s: u8 = 0;
+    while s < 16 {
+        let r = at_state(
+            stems,
+            largest,
+            links,
+            contexts,
+            scratch,
+            room,
+            s,
+            model,
+            model_head,
+            rule,
+            rule_head,
+            p,
+            t,
+        );
+        let Rounds::Through {
+            p: p_next,
+            t: t_next,
+        } = r
+        else {
+            return r;
+        };
+        p = p_next;
+        t = t_next;
+        s += 1;
+    }
+    Rounds::Through { p, t }
+}
+
+// All rounds. The scratch serves within a round, first the growth of its table and then its tests: what it holds at the end of either does not matter.
+pub fn all(
+    stems: &[u32],
+    largest: &[u32],
+    links: &mut [u32],
+    contexts: &mut [u64],
+    room: usize,
+    model: &[[u16; 16]; 16],
+    model_head: Head,
+    rule: &[[u8; 8]; 16],
+    rule_head: Head,
+) -> Rounds
+    requires { ⌜ (length (now stems) ≤ 4096) × (length (now largest) ≤ 4096) ⌝ }
+    requires { ⌜ (1 ≤ room) × (room ≤ 65535) × (room ≤ length (now links)) × (2 * room ≤ length (now contexts)) ⌝ }
+    ensures { λ r. ⌜ Answers (course (autOf (cell (now (model .entry))) «model_head») (autOf (cell (now (rule .entry))) «rule_head») (now (stems .entry)) room (rounds (autOf (cell (now (model .entry))) «model_head») (autOf (cell (now (rule .entry))) «rule_head») (now (largest .entry))) 0 0) r (now (links .exit)) ⌝ }
+{
+    let mut scratch = [0u16; 65551];
+    at_states(
+        stems,
+        largest,
+        links,
+        contexts,
+        &mut scratch,
+        room,
+        model,
+        model_head,
+        rule,
+        rule_head,
+    )
+}

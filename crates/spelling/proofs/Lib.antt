@@ -1,0 +1,3 @@
+-- The laws of the words that are read back and written.
+pub mod Chain
+pub mod Back
