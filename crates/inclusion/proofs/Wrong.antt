@@ -5,8 +5,9 @@ use Prim.Native.Nat.{ℕ}
 use native.Mathlib.Omega.{arith}
 use lib.ListN.{getD}
 use Rattle.bits.proofs.Refuses.{Refuses}
+use Rattle.records.specs.Faults.{refusal}
 use Rattle.inclusion.specs.declared.Answer.the-variants as says
-use Rattle.inclusion.specs.Answers.{refused, numbersOf}
+use Rattle.inclusion.specs.Answers.{numbersOf}
 use Rattle.inclusion.specs.Samples.{counted}
 use Rattle.inclusion.proofs.numbers.Reads as numbers
 
@@ -16,6 +17,6 @@ unfolding numbersOf
 counts-swapped x p = omega (arith, ap (λ (row : List ℕ). getD row 3 0) p)
 
 -- a word's length beside a refusal
-pub length-with-refusal : Refuses numbers.Post (refused 8 0 2 (counted 2 0 0 0), _) (8 ∷ 0 ∷ 2 ∷ 2 ∷ 0 ∷ 0 ∷ 0 ∷ 1 ∷ 0 ∷ [])
+pub length-with-refusal : Refuses numbers.Post (says.Refused (refusal 8 0 2) (counted 2 0 0 0), _) (8 ∷ 0 ∷ 2 ∷ 2 ∷ 0 ∷ 0 ∷ 0 ∷ 1 ∷ 0 ∷ [])
 unfolding numbersOf
 length-with-refusal x p = omega (arith, ap (λ (row : List ℕ). getD row 7 0) p)
