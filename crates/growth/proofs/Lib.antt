@@ -7,6 +7,7 @@ pub mod Closed
 pub mod Built
 pub mod Carried
 pub mod Steps
+pub mod Gathered
 pub mod Numbered
 pub mod Basis
 pub mod Nodes

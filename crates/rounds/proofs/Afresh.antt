@@ -15,7 +15,8 @@ use Rattle.periods.proofs.Lent.{contexts-length}
 use Rattle.rounds.specs.declared.Rounds.{Rounds}
 use Rattle.rounds.specs.declared.Rounds.the-variants.{Lacking}
 use Rattle.walk.specs.Walk.{Search, passed, rejected, search, pairsOf, accepts, searchRound}
-use Rattle.rounds.specs.Pairs.{Few}
+use Rattle.lassos.specs.declared.Found.{Found as Tested}
+use Rattle.lassos.specs.Pairs.{foundOf, Few}
 use Rattle.rounds.specs.Course.{judged, roundOf, answered, Answers, Ready}
 use Rattle.walk.proofs.Cut.{periods}
 use Rattle.rounds.proofs.Course.{round-ended, round-full}
@@ -42,7 +43,7 @@ holds o {n} {links₀ = links₀} {contexts₀ = contexts₀} h e =
       },
     )
 
-judged-ran : (v : List Period) (p : ℕ) (o : Search) {r : Rounds} {links : List ℕ} → r ≡ answered (length v) p o → take (length (linksOf v)) links ≡ linksOf v → Answers (judged v p o) r links
+judged-ran : (v : List Period) (p : ℕ) (o : Search) {r : Rounds} {links : List ℕ} → r ≡ answered (length v) p (foundOf o) → take (length (linksOf v)) links ≡ linksOf v → Answers (judged v p o) r links
 judged-ran v p (passed t) e k = record { answer = e; kept = refl }
 judged-ran v p (rejected t i j) e k = record { answer = e; kept = k }
 
@@ -69,18 +70,17 @@ module _ (A B : Aut) (room s rows : ℕ) {g : Growth} {links₀ links contexts�
       )
 
   pub ended-ran : (u : List ℕ) (p t : ℕ) {n : ℕ} {r : Rounds} → g ≡ Ended n
-      → r ≡ answered (length (take (n - 0) links)) p (search (accepts u (take (2 * n - 0) contexts)) (pairsOf u s rows (take (n - 0) links)) t)
+      → {f : Tested} → r ≡ answered n p f → f ≡ foundOf (search (accepts u (take (2 * n - 0) contexts)) (pairsOf u s rows (take (n - 0) links)) t)
       → Answers (roundOf A B u room (s, rows) p t) r links
-  ended-ran u p t {n} {r} e a =
+  ended-ran u p t {n} e a b =
       let v = entries (periodTable A B s rows room) in
       let (is, h) = holds (periodTable A B s rows room) h e in
-      let long : length (linksOf v) ≡ length v = length-map v (λ (q : Period). q .link) in
-      let all : length (linksOf v) ≡ n - 0 = omega (arith, h .count) in
+      let all : length (linksOf v) ≡ n - 0 = omega (arith, h .count, length-map v (λ (q : Period). q .link)) in
       let kept : take (length (linksOf v)) links ≡ linksOf v = ap (λ (k : ℕ). take k links) all ∙ h .links-part in
       rw (round-ended A B u room s rows p t is)
       (judged-ran v p (searchRound u (s, rows) v t)
-      (a ∙ ap₂ (λ (l c : List ℕ). answered (length l) p (search (accepts u c) (pairsOf u s rows l) t)) (h .links-part) (h .contexts-part)
-      ∙ ap (λ (k : ℕ). answered k p (searchRound u (s, rows) v t)) long)
+      (a ∙ ap₂ (λ (k : ℕ) (f : Tested). answered k p f) (sym (h .count))
+      (b ∙ ap₂ (λ (l c : List ℕ). foundOf (search (accepts u c) (pairsOf u s rows l) t)) (h .links-part) (h .contexts-part)))
       kept)
 
   pub full-ran : (u : List ℕ) (p t : ℕ) {m : ℕ} → g ≡ Full → m ≡ max p room → Answers (roundOf A B u room (s, rows) p t) (Lacking m t) links

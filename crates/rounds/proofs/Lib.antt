@@ -1,6 +1,4 @@
 -- The laws of the rounds and of their loops.
-pub mod Gathered
-pub mod Pairs
 pub mod Course
 pub mod Afresh
 pub mod Onward

@@ -16,7 +16,7 @@ use Rattle.rounds.specs.Course.{Course, through, lacking, found, along, 
 use Rattle.walk.proofs.Runs.{made}
 use Rattle.walk.proofs.Bounds.{round-tests as one-round}
 use Rattle.walk.proofs.Cut.{periods}
-use Rattle.rounds.proofs.Gathered.{gather-all, gather-next, gather-over}
+use Rattle.growth.proofs.Gathered.{gather-all, gather-next, gather-over}
 use Rattle.rounds.proofs.Course.{course-append, course-one}
 
 -- ---- what the answer says of the course

@@ -15,7 +15,7 @@ use Rattle.automata.specs.Loaded.{autOf}
 use Rattle.automata.specs.declared.Head.{Head}
 use Rattle.walk.specs.Walk.{opening, rounds}
 use Rattle.rounds.specs.Course.{roundAt, roundFor, roundsAt}
-use Rattle.rounds.proofs.Gathered.{gather-nothing}
+use Rattle.growth.proofs.Gathered.{gather-nothing}
 
 -- no transition of a loaded automaton is itself accepting, so a period may start at the accepting states
 pub opening-is : (rows : ℕ → ℕ → ℕ) (head : Head) (s : ℕ) → opening (autOf rows head) s ≡ bit (head .accepting) s

@@ -11,6 +11,8 @@ use Rattle.growth.specs.Grow.{ended, full}
 use Rattle.growth.specs.Steps.{gather, only}
 use Rattle.periods.specs.Periods.{Period, periodTable}
 use Rattle.periods.specs.Lent.{linksOf}
+use Rattle.lassos.specs.declared.Found.{Found as Tested}
+use Rattle.lassos.specs.declared.Found.the-variants.{Passed, Rejected}
 use Rattle.rounds.specs.declared.Rounds.{Rounds}
 use Rattle.rounds.specs.declared.Rounds.the-variants.{Through, Lacking, Found}
 use Rattle.walk.specs.Words.{stemWord, periodWord}
@@ -60,9 +62,9 @@ roundsOf (lacking p t) = Lacking p t
 roundsOf (found v i j p t) = Found p t i j (length v)
 
 -- of the tests of a table of n entries
-abbrev pub answered : ℕ → ℕ → Search → Rounds
-answered n p (passed t) = Through (max p n) t
-answered n p (rejected t i j) = Found (max p n) t i j n
+abbrev pub answered : ℕ → ℕ → Tested → Rounds
+answered n p (Passed t) = Through (max p n) t
+answered n p (Rejected t i j) = Found (max p n) t i j n
 
 -- the links of the table in which a lasso was found
 abbrev pub lastLinks : Course → List ℕ

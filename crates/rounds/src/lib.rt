@@ -6,15 +6,13 @@ ghost use Prim.Native.Nat.{_*_, _^_, max, _<_, _≤_};
 ghost use lib.ListN.{length};
 ghost use Rattle.bits.specs.Bits.{bit};
 ghost use Rattle.automata.specs.Loaded.{cell, autOf};
-ghost use Rattle.walk.specs.Walk.{search, pairsOf, accepts, rounds};
-ghost use Rattle.rounds.specs.Pairs.{Few};
+ghost use Rattle.walk.specs.Walk.{rounds};
 ghost use Rattle.rounds.specs.Course.{course, answered, roundAt, roundsAt, Answers, Ready};
 use automata::Head;
 use bits::entries;
 use bits::members;
 use growth::Growth;
-
-mod lassos;
+use lassos::Found;
 
 // No lasso was rejected; a period table lacks room; or a lasso was rejected, of the stem and the period at these indices, in a table of that size.
 pub enum Rounds {
@@ -44,34 +42,20 @@ fn larger(a: usize, b: usize) -> usize
     a
 }
 
-// Tests the lassos of a period table that is there, with the set of each of its periods found once and kept in the scratch.
-fn judge(
-    stems: &[u32],
-    links: &[u32],
-    contexts: &[u64],
-    scratch: &mut [u16],
-    s: u8,
-    target: u8,
-    before: usize,
-    t: usize,
-) -> Rounds
-    requires { ⌜ Few (now stems) (now links) (now scratch) t ⌝ }
-    requires { ⌜ 2 * length (now links) ≤ length (now contexts) ⌝ }
-    ensures { λ r. ⌜ r ≡ answered (length (now (links .entry))) before
-        (search (accepts (now (stems .entry)) (now (contexts .entry))) (pairsOf (now (stems .entry)) s target (now (links .entry))) t) ⌝ }
+// What the tests of a table of so many entries come to, where p was the most entries before.
+fn counted(found: Found, before: usize, size: usize) -> Rounds
+    ensures { λ r. ⌜ r ≡ answered size before found ⌝ }
 {
-    lassos::put_sets(links, contexts, s, scratch);
-    let size = links.len();
     let p = larger(before, size);
-    match lassos::search(stems, links, scratch, s, target, t) {
-        lassos::Found::Passed(tests) => Rounds::Through { p, t: tests },
-        lassos::Found::Rejected {
-            tests,
+    match found {
+        Found::Passed(t) => Rounds::Through { p, t },
+        Found::Rejected {
+            tests: t,
             stem,
             period,
         } => Rounds::Found {
             p,
-            t: tests,
+            t,
             stem,
             period,
             size,
@@ -121,16 +105,16 @@ fn round(
             t,
         };
     };
-    judge(
+    let found = lassos::first_rejected(
         stems,
         &links[0..n],
         &contexts[0..2 * n],
         scratch,
         s,
         target,
-        p,
         t,
-    )
+    );
+    counted(found, p, n)
 }
 
 // The rounds of a state: if it is accepting, those of the entries of W, in table order.

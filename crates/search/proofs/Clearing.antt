@@ -1,25 +1,36 @@
 -- Zeroes from the first place on, and a part of a slice that is cleared. Assumes nothing.
-use mathlib.Core.Path.{_≡_, sym, ap, ap₂, _∙_}
+use mathlib.Core.Path.{_≡_, refl, sym, ap, ap₂, _∙_}
 use mathlib.Core.List.{List, _++_, append-nil}
 use Prim.Native.Nat.{ℕ, _+_, _-_, _<_, _≤_}
 use native.Mathlib.Omega.{arith}
 use native.Mathlib.Nat.{sub-zero}
-use lib.ListN.{length, set, drop, replicate, length-append, length-drop, length-replicate}
+use lib.ListN.{length, set, length-set, drop, replicate, length-append, length-drop, length-replicate}
 use lib.Seq.{drop-at, drop-length}
-use borrow.Author.Fill.{fill-more}
+use borrow.Author.Fill.{fill-none, fill-more}
 use borrow.Rule.Slice.PartMut.{midOf, putMid, post-is, mid-len}
 use Rattle.growth.specs.Lent.{over}
 use Rattle.growth.proofs.Offering.{over-length}
 use Rattle.spelling.proofs.Back.{put-front}
 
--- zeroes from the first place on, one more, and all
-pub clear-more : (xs : List ℕ) {ys : List ℕ} (i : ℕ) → i < length xs → ys ≡ replicate i 0 ++ drop i xs → set ys i 0 ≡ replicate (i + 1) 0 ++ drop (i + 1) xs
-clear-more xs i l e = ap (λ (zs : List ℕ). set zs i 0) e ∙ fill-more i 0 xs l
+-- zeroes in the first i places, and then what was there
+pub record Cleared (xs : List ℕ) (i : ℕ) (ys : List ℕ) : Type 0 where
+  pub low : i ≤ length xs
+  pub long : length ys ≡ length xs
+  pub zeroes : ys ≡ replicate i 0 ++ drop i xs
 
-pub clear-all : (xs : List ℕ) {ys : List ℕ} (i : ℕ) → i ≤ length xs → length xs ≤ i → ys ≡ replicate i 0 ++ drop i xs → ys ≡ replicate (length xs) 0
-clear-all xs i l m e =
-    let same : i ≡ length xs = omega arith in
-    e ∙ ap (λ (k : ℕ). replicate k 0 ++ drop k xs) same ∙ ap (λ (r : List ℕ). replicate (length xs) 0 ++ r) (drop-length xs) ∙ append-nil (replicate (length xs) 0)
+pub cleared-none : (xs : List ℕ) → Cleared xs 0 xs
+cleared-none xs = record { low = omega arith; long = refl; zeroes = fill-none xs 0 }
+
+module _ {xs ys : List ℕ} {i : ℕ} (h : Cleared xs i ys) where
+  pub cleared-more : i < length ys → Cleared xs (i + 1) (set ys i 0)
+  cleared-more l =
+      let m : i < length xs = omega (arith, h .long) in
+      record { low = omega arith; long = length-set ys i 0 ∙ h .long; zeroes = ap (λ (zs : List ℕ). set zs i 0) (h .zeroes) ∙ fill-more i 0 xs m }
+
+  pub cleared-all : length ys ≤ i → ys ≡ replicate (length xs) 0
+  cleared-all l =
+      let same : i ≡ length xs = omega (arith, h .low, h .long) in
+      h .zeroes ∙ ap (λ (k : ℕ). replicate k 0 ++ drop k xs) same ∙ ap (λ (r : List ℕ). replicate (length xs) 0 ++ r) (drop-length xs) ∙ append-nil (replicate (length xs) 0)
 
 -- what was lent as the first n elements, and then lent again and cleared
 module _ (n : ℕ) (xs ys : List ℕ) {zs : List ℕ} (l : n ≤ length xs) (e : length ys ≡ length (midOf 0 (n - 0) xs))

@@ -1,4 +1,4 @@
--- `round::at_state` meets its contract. The loop's invariant: the rounds from k on give what all give, each with few tests, and the tables stay as long as they are. Assumes nothing.
+-- `at_state` meets its contract. The loop's invariant: the rounds from k on give what all give, each with few tests, and the tables stay as long as they are. Assumes nothing.
 use Rattle.rounds.proofs.States.{opening-is, no-rounds, round-count}
 use Rattle.rounds.proofs.Onward.{Stopped, Onward, onward-begin, onward-next, onward-stop, onward-done, none-ran, ready-on, tests-more}
 use Rattle.rounds.specs.Course.{course, roundFor, roundsAt}

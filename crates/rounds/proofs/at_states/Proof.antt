@@ -1,4 +1,4 @@
--- `round::at_states` meets its contract. The loop's invariant: the rounds from s on give what all give, each with few tests, and the tables stay as long as they are. Assumes nothing.
+-- `at_states` meets its contract. The loop's invariant: the rounds from s on give what all give, each with few tests, and the tables stay as long as they are. Assumes nothing.
 use Rattle.rounds.proofs.States.{rounds-are, rounds-count}
 use Rattle.rounds.proofs.Onward.{Stopped, Onward, onward-begin, onward-next, onward-stop, onward-done, ready-on, tests-more}
 use Rattle.rounds.specs.Course.{course, roundsAt}

@@ -1,4 +1,4 @@
--- `round::round` meets its contract. Assumes nothing.
+-- `round` meets its contract. Assumes nothing.
 use Rattle.rounds.proofs.States.{opening-is, no-round, one-round}
 use Rattle.rounds.proofs.Onward.{none-ran, one-ran}
 use Rattle.rounds.proofs.Afresh.{table-within, judge-ready, full-ran, ended-ran}
@@ -57,41 +57,44 @@ returns-2 c =
     ∙ ap (λ (x : ℕ). (args .s, x) ∷ []) (sym (c .before .before .before .before .before .before .before .before .before .before .before .before .before .stem-target .ensures)))
     (full-ran (autOf (cell (args .model .now)) (args .model-head)) (autOf (cell (args .rule .now)) (args .rule-head)) (args .room) (args .s) (c .before .before .before .before .before .before .before .before .before .before .before .before .before .stem-target .result) (c .before .before .before .before .before .before .before .before .before .grow .ensures) (args .stems .now) (args .p) (args .t) (c .before .enum-told .given .1) (c .larger .ensures))
 
-sub-judge : tie.Need-sub-judge
-sub-judge c = search needs
+sub-first-rejected : tie.Need-sub-first-rejected
+sub-first-rejected c = search needs
 
-part-judge-start : tie.Need-part-judge-start
-part-judge-start c = search needs
+part-first-rejected-start : tie.Need-part-first-rejected-start
+part-first-rejected-start c = search needs
 
-part-judge-end : tie.Need-part-judge-end
-part-judge-end c =
+part-first-rejected-end : tie.Need-part-first-rejected-end
+part-first-rejected-end c =
     let start = c .before .before .before .before .before .before .before .before .before .before .before .before .before .before .before .before .before .before .before .before .before in
     let args = start .args in
     omega (arith, table-within (autOf (cell (args .model .now)) (args .model-head)) (autOf (cell (args .rule .now)) (args .rule-head)) (args .room) (args .s) (c .before .before .before .before .before .before .before .before .before .before .before .before .before .before .stem-target .result) (c .before .before .before .before .before .before .before .before .before .before .grow .ensures) (c .before .before .grown .given .1))
 
-mul-judge : tie.Need-mul-judge
-mul-judge c =
+mul-first-rejected : tie.Need-mul-first-rejected
+mul-first-rejected c =
     let start = c .before .before .before .before .before .before .before .before .before .before .before .before .before .before .before .before .before .before .before .before .before .before in
     let args = start .args in
     omega (arith, table-within (autOf (cell (args .model .now)) (args .model-head)) (autOf (cell (args .rule .now)) (args .rule-head)) (args .room) (args .s) (c .before .before .before .before .before .before .before .before .before .before .before .before .before .before .before .stem-target .result) (c .before .before .before .before .before .before .before .before .before .before .before .grow .ensures) (c .before .before .before .grown .given .1), start .pre .0 .short)
 
-sub-judge-2 : tie.Need-sub-judge-2
-sub-judge-2 c = search needs
+sub-first-rejected-2 : tie.Need-sub-first-rejected-2
+sub-first-rejected-2 c = search needs
 
-part-judge-start-2 : tie.Need-part-judge-start-2
-part-judge-start-2 c = search needs
+part-first-rejected-start-2 : tie.Need-part-first-rejected-start-2
+part-first-rejected-start-2 c = search needs
 
-part-judge-end-2 : tie.Need-part-judge-end-2
-part-judge-end-2 c =
+part-first-rejected-end-2 : tie.Need-part-first-rejected-end-2
+part-first-rejected-end-2 c =
     let start = c .before .before .before .before .before .before .before .before .before .before .before .before .before .before .before .before .before .before .before .before .before .before .before in
     let args = start .args in
     omega (arith, table-within (autOf (cell (args .model .now)) (args .model-head)) (autOf (cell (args .rule .now)) (args .rule-head)) (args .room) (args .s) (c .before .before .before .before .before .before .before .before .before .before .before .before .before .before .before .before .stem-target .result) (c .before .before .before .before .before .before .before .before .before .before .before .before .grow .ensures) (c .before .before .before .before .grown .given .1))
 
-judge-requires : tie.Need-judge-requires
-judge-requires c κs =
+first-rejected-requires : tie.Need-first-rejected-requires
+first-rejected-requires c κs =
     let start = c .before .before .before .before .before .before .before .before .before .before .before .before .before .before .before .before .before .before .before .before .before .before .before .before .before in
     let args = start .args in
     judge-ready (autOf (cell (args .model .now)) (args .model-head)) (autOf (cell (args .rule .now)) (args .rule-head)) (args .room) (args .s) (c .before .before .before .before .before .before .before .before .before .before .before .before .before .before .before .before .before .before .stem-target .result) (c .before .before .before .before .before .before .before .before .before .before .before .before .before .before .grow .ensures) (start .pre .0) (c .before .before .before .before .before .before .before .before .before .before .before .before .before .before .grow .kept .1 .1 .0) (c .before .before .before .before .before .before .grown .given .1)
+
+counted-requires : tie.Need-counted-requires
+counted-requires c κs = search needs
 
 same-length-4 : tie.Need-same-length-4
 same-length-4 c = search needs
@@ -104,12 +107,12 @@ same-length-6 c = search needs
 
 returns-3 : tie.Need-returns-3
 returns-3 c =
-    let start = c .before .before .before .before .before .before .before .before .before .before .before .before .before .before .before .before .before .before .before .before .before .before .before .before .before .before .before .before in
+    let start = c .before .before .before .before .before .before .before .before .before .before .before .before .before .before .before .before .before .before .before .before .before .before .before .before .before .before .before .before .before in
     let args = start .args in
     one-ran (autOf (cell (args .model .now)) (args .model-head)) (autOf (cell (args .rule .now)) (args .rule-head)) (args .stems .now) (args .room) (args .p) (args .t)
-    (one-round (autOf (cell (args .model .now)) (args .model-head)) (args .s) (args .entry) (opening-is (cell (args .model .now)) (args .model-head) (args .s) ∙ start .pre .1 .1) (eq-eqb (stemState (args .entry)) (args .s) (sym (c .before .before .before .before .before .before .before .before .before .before .before .before .before .before .before .before .before .before .before .before .before .before .before .stem-state .ensures) ∙ c .before .before .before .before .before .before .before .before .before .before .before .before .before .before .before .before .before .before .before .before .before .before .if1 .left))
-    ∙ ap (λ (x : ℕ). (args .s, x) ∷ []) (sym (c .before .before .before .before .before .before .before .before .before .before .before .before .before .before .before .before .before .before .before .before .before .stem-target .ensures)))
-    (ended-ran (autOf (cell (args .model .now)) (args .model-head)) (autOf (cell (args .rule .now)) (args .rule-head)) (args .room) (args .s) (c .before .before .before .before .before .before .before .before .before .before .before .before .before .before .before .before .before .before .before .before .before .stem-target .result) (c .before .before .before .before .before .before .before .before .before .before .before .before .before .before .before .before .before .grow .ensures) (args .stems .now) (args .p) (args .t) (c .before .before .before .before .before .before .before .before .before .grown .given .1) (c .before .before .judge .ensures))
+    (one-round (autOf (cell (args .model .now)) (args .model-head)) (args .s) (args .entry) (opening-is (cell (args .model .now)) (args .model-head) (args .s) ∙ start .pre .1 .1) (eq-eqb (stemState (args .entry)) (args .s) (sym (c .before .before .before .before .before .before .before .before .before .before .before .before .before .before .before .before .before .before .before .before .before .before .before .before .stem-state .ensures) ∙ c .before .before .before .before .before .before .before .before .before .before .before .before .before .before .before .before .before .before .before .before .before .before .before .if1 .left))
+    ∙ ap (λ (x : ℕ). (args .s, x) ∷ []) (sym (c .before .before .before .before .before .before .before .before .before .before .before .before .before .before .before .before .before .before .before .before .before .before .stem-target .ensures)))
+    (ended-ran (autOf (cell (args .model .now)) (args .model-head)) (autOf (cell (args .rule .now)) (args .rule-head)) (args .room) (args .s) (c .before .before .before .before .before .before .before .before .before .before .before .before .before .before .before .before .before .before .before .before .before .before .stem-target .result) (c .before .before .before .before .before .before .before .before .before .before .before .before .before .before .before .before .before .before .grow .ensures) (args .stems .now) (args .p) (args .t) (c .before .before .before .before .before .before .before .before .before .before .grown .given .1) (c .counted .ensures) (c .before .before .before .first-rejected .ensures))
 
 pub round-spec : {M : Type 1} → statement M
 round-spec =
@@ -126,14 +129,15 @@ round-spec =
     same-length-2
     same-length-3
     returns-2
-    sub-judge
-    part-judge-start
-    part-judge-end
-    mul-judge
-    sub-judge-2
-    part-judge-start-2
-    part-judge-end-2
-    judge-requires
+    sub-first-rejected
+    part-first-rejected-start
+    part-first-rejected-end
+    mul-first-rejected
+    sub-first-rejected-2
+    part-first-rejected-start-2
+    part-first-rejected-end-2
+    first-rejected-requires
+    counted-requires
     same-length-4
     same-length-5
     same-length-6

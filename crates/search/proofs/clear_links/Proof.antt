@@ -1,24 +1,19 @@
 -- `clear_links` meets its contract. The loop's invariant: zeroes up to i, and then what was there. Assumes nothing.
-use Rattle.search.proofs.Clearing.{clear-more, clear-all}
-use native.Mathlib.Omega.{arith}
-use borrow.Author.Fill.{fill-none}
-use lib.ListN.{replicate, drop}
-use mathlib.Core.List.{_++_}
-use mathlib.Core.Path.{_≡_, refl}
+use Rattle.search.proofs.Clearing.{Cleared, cleared-none, cleared-more, cleared-all}
 use borrow.Author.Needs.{needs}
-use Prim.Native.Nat.{_≤_, _-_}
+use Prim.Native.Nat.{_-_}
 use lib.ListN.{length}
 use Rattle.search.proofs.clear_links.Statement.{statement}
 use Rattle.search.proofs.clear_links.Tie as tie
 
 abbrev Inv-loop : tie.InvT-loop
-Inv-loop links₀ i₀ links i = (i ≤ length links₀) × (length links ≡ length links₀) × (links ≡ replicate i 0 ++ drop i links₀)
+Inv-loop links₀ i₀ links i = Cleared links₀ i links
 
 abbrev μ-loop : tie.MeasureT-loop
 μ-loop links₀ i₀ links i = length links₀ - i
 
 loop-holds : tie.Need-loop-holds Inv-loop μ-loop
-loop-holds c = (search needs, refl, fill-none (c .args .links .now) 0)
+loop-holds c = cleared-none (c .args .links .now)
 
 mul-links : tie.Need-mul-links Inv-loop μ-loop
 mul-links c = search needs
@@ -33,13 +28,13 @@ loop-less : tie.Need-loop-less Inv-loop μ-loop
 loop-less c = search needs
 
 loop-again : tie.Need-loop-again Inv-loop μ-loop
-loop-again c = (search needs, search needs, clear-more (c .before .before .args .links .now) (c .before .loop .i) (omega (arith, c .loop-test .taken)) (c .before .loop .inv .2))
+loop-again c = cleared-more (c .before .loop .inv) (c .loop-test .taken)
 
 same-length : tie.Need-same-length Inv-loop μ-loop
 same-length c = search needs
 
 returns : tie.Need-returns Inv-loop μ-loop
-returns c = clear-all (c .before .before .args .links .now) (c .before .loop .i) (c .before .loop .inv .0) (omega (arith, c .loop-test .left)) (c .before .loop .inv .2)
+returns c = cleared-all (c .before .loop .inv) (c .loop-test .left)
 
 pub clear-links-spec : {M : Type 1} → statement M
 clear-links-spec =

@@ -1,4 +1,4 @@
--- `lassos::fits` meets its contract. Assumes nothing.
+-- `fits` meets its contract. Assumes nothing.
 use Rattle.walk.specs.Walk.{fits}
 use Rattle.bits.specs.Fields.{stemState}
 use Rattle.bits.specs.Sets.{subset}
@@ -6,8 +6,8 @@ use borrow.Author.Tests.{eq-eqb, ne-eqb}
 use Prim.Native.Nat.{ℕ}
 use mathlib.Core.Path.{sym, ap, _∙_}
 use borrow.Author.Needs.{needs}
-use Rattle.rounds.proofs.lassos.fits.Statement.{statement}
-use Rattle.rounds.proofs.lassos.fits.Tie as tie
+use Rattle.lassos.proofs.fits.Statement.{statement}
+use Rattle.lassos.proofs.fits.Tie as tie
 
 stem-state-requires : tie.Need-stem-state-requires
 stem-state-requires c κs = search needs

@@ -10,8 +10,8 @@ use Rattle.bits.specs.Sets.{meets}
 use Rattle.bits.specs.Fields.{stemTarget, linkState}
 use Rattle.automata.specs.Repeated.{repeated}
 use Rattle.periods.specs.Lent.{contextIn}
-use Rattle.rounds.specs.declared.lassos.Found.{Found}
-use Rattle.rounds.specs.declared.lassos.Found.the-variants.{Passed, Rejected}
+use Rattle.lassos.specs.declared.Found.{Found}
+use Rattle.lassos.specs.declared.Found.the-variants.{Passed, Rejected}
 use Rattle.walk.specs.Walk.{Search, passed, rejected}
 
 abbrev pub foundOf : Search → Found

@@ -1,14 +1,14 @@
--- `lassos::put_sets` meets its contract. The loop's invariant: the sets of the first j periods are there. Assumes nothing.
+-- `put_sets` meets its contract. The loop's invariant: the sets of the first j periods are there. Assumes nothing.
 use native.Mathlib.Nat.{le-antisymm}
 use native.Mathlib.Omega.{arith}
 use mathlib.Core.Path.{_≡_, refl}
-use Rattle.rounds.specs.Pairs.{Accepting}
+use Rattle.lassos.specs.Pairs.{Accepting}
 use mathlib.Core.Path.{_≡_}
 use borrow.Author.Needs.{needs}
 use Prim.Native.Nat.{_≤_, _-_}
 use lib.ListN.{length}
-use Rattle.rounds.proofs.lassos.put_sets.Statement.{statement}
-use Rattle.rounds.proofs.lassos.put_sets.Tie as tie
+use Rattle.lassos.proofs.put_sets.Statement.{statement}
+use Rattle.lassos.proofs.put_sets.Tie as tie
 
 abbrev Inv-loop : tie.InvT-loop
 Inv-loop links contexts s sets₀ j₀ sets j = (j ≤ length links) × (length sets ≡ length sets₀) × Accepting s j links contexts sets

@@ -5,8 +5,8 @@ ghost use Prim.Native.Nat.{_+_, _*_, _<_, _≤_};
 ghost use lib.ListN.{length};
 ghost use Rattle.bits.specs.Sets.{meets};
 ghost use Rattle.bits.specs.Fields.{stemTarget};
-ghost use Rattle.walk.specs.Walk.{search, fits, pairsOf};
-ghost use Rattle.rounds.specs.Pairs.{foundOf, meeting, Accepting, Few};
+ghost use Rattle.walk.specs.Walk.{search, fits, pairsOf, accepts};
+ghost use Rattle.lassos.specs.Pairs.{foundOf, meeting, Accepting, Few};
 use automata::Pairs8;
 use automata::eight;
 use bits::entries;
@@ -38,7 +38,7 @@ fn put_set(links: &[u32], contexts: &[u64], s: u8, sets: &mut [u16], j: usize)
 }
 
 // The sets of all periods at s, each found once.
-pub fn put_sets(links: &[u32], contexts: &[u64], s: u8, sets: &mut [u16])
+fn put_sets(links: &[u32], contexts: &[u64], s: u8, sets: &mut [u16])
     requires { ⌜ (length (now links) ≤ length (now sets)) × (2 * length (now links) ≤ length (now contexts)) ⌝ }
     ensures { λ _. ⌜ Accepting s (length (now (links .entry))) (now (links .entry)) (now (contexts .entry)) (now (sets .exit)) ⌝ }
 {
@@ -67,7 +67,7 @@ fn accepted(entry: u32, set: u16) -> bool
 }
 
 // Tests the pairs in order, and leaves both loops at the first rejected one.
-pub fn search(stems: &[u32], links: &[u32], sets: &[u16], s: u8, target: u8, before: usize) -> Found
+fn search(stems: &[u32], links: &[u32], sets: &[u16], s: u8, target: u8, before: usize) -> Found
     requires { ⌜ Few (now stems) (now links) (now sets) before ⌝ }
     ensures { λ r. ⌜ r ≡ foundOf (search (meeting (now (stems .entry)) (now (sets .entry))) (pairsOf (now (stems .entry)) s target (now (links .entry))) before) ⌝ }
 {
@@ -100,4 +100,22 @@ pub fn search(stems: &[u32], links: &[u32], sets: &[u16], s: u8, target: u8, bef
         }
         u += 1;
     }
+}
+
+// The first rejected lasso of a period table: the set of each of its periods at s is found once, and kept in the scratch.
+pub fn first_rejected(
+    stems: &[u32],
+    links: &[u32],
+    contexts: &[u64],
+    scratch: &mut [u16],
+    s: u8,
+    target: u8,
+    before: usize,
+) -> Found
+    requires { ⌜ Few (now stems) (now links) (now scratch) before ⌝ }
+    requires { ⌜ 2 * length (now links) ≤ length (now contexts) ⌝ }
+    ensures { λ r. ⌜ r ≡ foundOf (search (accepts (now (stems .entry)) (now (contexts .entry))) (pairsOf (now (stems .entry)) s target (now (links .entry))) before) ⌝ }
+{
+    put_sets(links, contexts, s, scratch);
+    search(stems, links, scratch, s, target, before)
 }

@@ -1,12 +1,12 @@
--- `lassos::put_set` meets its contract. Assumes nothing.
-use Rattle.rounds.proofs.Pairs.{put-none, put-one}
+-- `put_set` meets its contract. Assumes nothing.
+use Rattle.lassos.proofs.Pairs.{put-none, put-one}
 use Rattle.bits.specs.Fields.{linkState}
 use lib.ListN.{getD}
 use borrow.Author.Tests.{ne-eqb}
 use mathlib.Core.Path.{_∙_}
 use borrow.Author.Needs.{needs}
-use Rattle.rounds.proofs.lassos.put_set.Statement.{statement}
-use Rattle.rounds.proofs.lassos.put_set.Tie as tie
+use Rattle.lassos.proofs.put_set.Statement.{statement}
+use Rattle.lassos.proofs.put_set.Tie as tie
 
 mul-link-state : tie.Need-mul-link-state
 mul-link-state c = search needs

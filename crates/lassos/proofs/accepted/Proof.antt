@@ -1,10 +1,10 @@
--- `lassos::accepted` meets its contract. Assumes nothing.
+-- `accepted` meets its contract. Assumes nothing.
 use Rattle.bits.proofs.Sets.{meets-test}
 use Rattle.bits.specs.Fields.{stemTarget}
 use native.Mathlib.Omega.{arith}
 use borrow.Author.Needs.{needs}
-use Rattle.rounds.proofs.lassos.accepted.Statement.{statement}
-use Rattle.rounds.proofs.lassos.accepted.Tie as tie
+use Rattle.lassos.proofs.accepted.Statement.{statement}
+use Rattle.lassos.proofs.accepted.Tie as tie
 
 stem-target-requires : tie.Need-stem-target-requires
 stem-target-requires c κs = search needs

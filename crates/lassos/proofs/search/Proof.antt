@@ -1,17 +1,17 @@
--- `lassos::search` meets its contract. The loops' invariants: the pairs that are left give what all give, and the tests are at most as many as the pairs passed. Assumes nothing.
+-- `search` meets its contract. The loops' invariants: the pairs that are left give what all give, and the tests are at most as many as the pairs passed. Assumes nothing.
 use Rattle.bits.specs.Fields.{linkState}
 use borrow.Author.Tests.{ne-eqb, not-true, not-false}
-use Rattle.rounds.proofs.Pairs.{pairsFrom, pairsOn, Left, begin, pass-stem, enter, pass-period, leave, finish, tested, rejects, next-row, pairs-few}
+use Rattle.lassos.proofs.Pairs.{pairsFrom, pairsOn, Left, begin, pass-stem, enter, pass-period, leave, finish, tested, rejects, next-row, pairs-few}
 use Rattle.walk.specs.Walk.{fits}
-use Rattle.rounds.specs.Pairs.{meeting}
+use Rattle.lassos.specs.Pairs.{meeting}
 use lib.ListN.{length, getD}
 use native.Mathlib.Omega.{arith}
 use mathlib.Core.Bool.{true}
 use Prim.Native.Nat.{_+_, _*_, _-_, _≤_, _<_}
 use mathlib.Core.Path.{_≡_, refl, sym, _∙_}
 use borrow.Author.Needs.{needs}
-use Rattle.rounds.proofs.lassos.search.Statement.{statement}
-use Rattle.rounds.proofs.lassos.search.Tie as tie
+use Rattle.lassos.proofs.search.Statement.{statement}
+use Rattle.lassos.proofs.search.Tie as tie
 
 abbrev Inv-loop : tie.InvT-loop
 Inv-loop stems links sets s target before tests₀ u stem v₀ tests v = (u < length stems) × (v ≤ length links) × (tests ≤ before + (u * length links + v)) × (stem ≡ getD stems u 0) × (fits s target (getD stems u 0) ≡ true) × Left stems sets s target links before (pairsOn stems s target links u v) tests

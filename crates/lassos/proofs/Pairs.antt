@@ -15,20 +15,10 @@ use Rattle.bits.specs.Fields.{linkState}
 use Rattle.growth.specs.Steps.{gather, only, steps}
 use Rattle.automata.specs.Repeated.{repeated}
 use Rattle.periods.specs.Lent.{contextIn}
-use Rattle.rounds.specs.declared.lassos.Found.the-variants.{Passed, Rejected}
-use Rattle.walk.specs.Walk.{Search, passed, rejected, search, fits, pairsOf}
-use Rattle.rounds.specs.Pairs.{foundOf, meeting, Accepting, Few}
-use Rattle.rounds.proofs.Gathered.{gather-all, gather-next, gather-past, gather-over, gather-nothing}
-
--- ---- what the answer says of the search
-
-pub passed-is : (o : Search) {t : ℕ} → Passed t ≡ foundOf o → o ≡ passed t
-passed-is (passed k) e = cc
-passed-is (rejected k i j) e = let z : _≡_ {A = ℕ} 0 1 = cc in absurd (omega arith)
-
-pub rejected-is : (o : Search) {t i j : ℕ} → Rejected t i j ≡ foundOf o → o ≡ rejected t i j
-rejected-is (passed k) e = let z : _≡_ {A = ℕ} 0 1 = cc in absurd (omega arith)
-rejected-is (rejected k i j) e = cc
+use Rattle.lassos.specs.declared.Found.the-variants.{Passed, Rejected}
+use Rattle.walk.specs.Walk.{passed, rejected, search, fits, pairsOf}
+use Rattle.lassos.specs.Pairs.{foundOf, meeting, Accepting, Few}
+use Rattle.growth.proofs.Gathered.{gather-all, gather-next, gather-past, gather-over, gather-nothing}
 
 -- ---- the sets of the periods
 

@@ -1,0 +1,3 @@
+-- The laws of the search.
+pub mod Pairs
+pub mod Served
