@@ -3,7 +3,10 @@ pub mod AtWork
 pub mod Packed
 pub mod Lent
 pub mod Masks
+pub mod Runs
 pub mod Chain
+pub mod Scanning
+pub mod Covering
 pub mod Appended
 pub mod Offered
 pub mod Going

@@ -20,27 +20,27 @@ module _ (covers : Period → Period → Bool) (room : ℕ) (f : ℕ → List Pe
   unfoldable pub from : ℕ → List Period → Outcome Period
   from i t = offer covers room t (gather i (k - i) f)
 
-  pub loop-start : {n : ℕ} {links contexts chains : List ℕ} → Ready room n links contexts chains
-      → Going room (offer covers room (held n links contexts) (gather 0 k f)) (from 0) links links contexts contexts chains chains n
+  pub loop-start : {n : ℕ} {links contexts chains : List ℕ} → Ready covers room n links contexts chains
+      → Going covers room (offer covers room (held n links contexts) (gather 0 k f)) (from 0) links links contexts contexts chains chains n
   unfolding from
   loop-start {n} {links} {contexts} {chains} ready =
-      subst (λ (j : ℕ). Going room (offer covers room (held n links contexts) (gather 0 j f)) (from 0) links links contexts contexts chains chains n) (sub-zero k)
+      subst (λ (j : ℕ). Going covers room (offer covers room (held n links contexts) (gather 0 j f)) (from 0) links links contexts contexts chains chains n) (sub-zero k)
       (going ready (from 0))
 
   module _ (i : ℕ) {o : Outcome Period} {links₀ links contexts₀ contexts chains₀ chains : List ℕ} {n : ℕ}
-      (at : Going room o (from i) links₀ links contexts₀ contexts chains₀ chains n) where
-    pub loop-end : k ≤ i → Grows o (Ended n) links₀ links contexts₀ contexts chains
+      (at : Going covers room o (from i) links₀ links contexts₀ contexts chains₀ chains n) where
+    pub loop-end : k ≤ i → Grows covers o (Ended n) links₀ links contexts₀ contexts chains
     unfolding from
     loop-end h = going-end at (gather-done covers room f k i (held n links contexts) h)
 
     module _ (h : i < k) {links′ contexts′ chains′ : List ℕ} where
-      pub loop-full : {r : Growth} → r ≡ Full → Grows (offer covers room (held n links contexts) (f i)) r links links′ contexts contexts′ chains′
-          → Grows o Full links₀ links′ contexts₀ contexts′ chains′
+      pub loop-full : {r : Growth} → r ≡ Full → Grows covers (offer covers room (held n links contexts) (f i)) r links links′ contexts contexts′ chains′
+          → Grows covers o Full links₀ links′ contexts₀ contexts′ chains′
       unfolding from
-      loop-full e g = going-full at covers (f i) (from (i + 1)) (gather-on covers room f k i (held n links contexts) h) e g
+      loop-full e g = going-full at (f i) (from (i + 1)) (gather-on covers room f k i (held n links contexts) h) e g
 
-      pub loop-on : {r : Growth} {m : ℕ} → r ≡ Ended m → Grows (offer covers room (held n links contexts) (f i)) r links links′ contexts contexts′ chains′
+      pub loop-on : {r : Growth} {m : ℕ} → r ≡ Ended m → Grows covers (offer covers room (held n links contexts) (f i)) r links links′ contexts contexts′ chains′
           → length links′ ≡ length links → length contexts′ ≡ length contexts → length chains′ ≡ length chains
-          → Going room o (from (i + 1)) links₀ links′ contexts₀ contexts′ chains₀ chains′ m
+          → Going covers room o (from (i + 1)) links₀ links′ contexts₀ contexts′ chains₀ chains′ m
       unfolding from
-      loop-on e g ll cl tl = going-on at covers (f i) (from (i + 1)) (gather-on covers room f k i (held n links contexts) h) e g ll cl tl
+      loop-on e g ll cl tl = going-on at (f i) (from (i + 1)) (gather-on covers room f k i (held n links contexts) h) e g ll cl tl

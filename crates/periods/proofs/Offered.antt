@@ -1,22 +1,31 @@
 -- A candidate offered: covered, or appended; and one that is none. Assumes nothing.
-use mathlib.Core.Path.{_≡_, refl, sym, ap, subst}
-use mathlib.Core.Bool.{Bool, true, false}
-use mathlib.Core.List.{List, [], _∷_}
-use Prim.Native.Nat.{ℕ}
+use mathlib.Core.Path.{_≡_, refl, sym, ap, _∙_, subst}
+use mathlib.Core.Bool.{Bool, true, false, not}
+use mathlib.Core.List.{List, [], _∷_, _++_}
+use Prim.Native.Nat.{ℕ, suc, _+_}
+use native.Mathlib.Omega.{arith}
+use borrow.Author.Tests.{ltb-true, ltb-false}
+use lib.Dec.{ltb}
+use lib.ListN.{length, getD, set}
 use Rattle.bits.specs.Bits.{bit}
-use Rattle.bits.specs.Fields.{periodLink}
+use Rattle.bits.specs.Fields.{periodLink, linkState}
 use Rattle.growth.specs.declared.Growth.{Growth}
 use Rattle.growth.specs.declared.Growth.the-variants.{Ended}
-use Rattle.growth.specs.Grow.{Outcome, ended, full, onward, append, covered, offer}
+use Rattle.growth.specs.Grow.{Outcome, ended, full, entries, onward, append, covered, offer}
+use Rattle.growth.specs.Lent.{growthOf}
+use Rattle.growth.specs.Steps.{only}
 use Rattle.automata.specs.Loaded.{ofPairs}
+use Rattle.growth.proofs.Grown.{append-room, append-full}
 use Rattle.growth.proofs.Offering.{offer-none, offer-covered}
 use Rattle.periods.specs.Periods.{Period}
 use Rattle.periods.specs.Lent.{held}
-use Rattle.periods.specs.Growing.{Ready, Grows}
+use Rattle.periods.specs.Chained.{Chained}
+use Rattle.periods.specs.Growing.{Ready, Grows, Appends}
 use Rattle.periods.specs.Candidates.{atState}
 use Rattle.periods.specs.declared.table.Move.{Move}
 use Rattle.periods.proofs.Lent.{held-length}
-use Rattle.periods.proofs.Appended.{unchanged}
+use Rattle.periods.proofs.Chain.{chained-append}
+use Rattle.periods.proofs.Appended.{never, unchanged}
 
 -- a candidate that is not covered is appended
 offer-append : {E : Type 0} (covers : E → E → Bool) (room : ℕ) (t : List E) (c : E) → covered covers t c ≡ false → offer covers room t (c ∷ []) ≡ append room t c
@@ -27,31 +36,47 @@ offer-append {E} covers room t c p = rw (p, offer) (same (append room t c))
     same (ended s) = refl
     same (full s) = refl
 
-module _ (covers : Period → Period → Bool) {room n : ℕ} {links contexts chains : List ℕ} (ready : Ready room n links contexts chains) where
-  pub offered-covered : (e : Period) → covered covers (held n links contexts) e ≡ true
-      → Grows (offer covers room (held n links contexts) (e ∷ [])) (Ended n) links links contexts contexts chains
-  offered-covered e p = rw (offer-covered covers room (held n links contexts) e p) (unchanged ready refl (ap Ended (sym (held-length links contexts n))))
+module _ (covers : Period → Period → Bool) {room n : ℕ} {links contexts chains : List ℕ} (ready : Ready covers room n links contexts chains) where
+  pub offered-covered : (e : Period) {b : Bool} {chains′ : List ℕ} → b ≡ covered covers (held n links contexts) e → Chained covers (held n links contexts) (only (not b) e) chains′ → b ≡ true
+      → Grows covers (offer covers room (held n links contexts) (e ∷ [])) (Ended n) links links contexts contexts chains′
+  offered-covered e {chains′ = chains′} p h is =
+      rw (offer-covered covers room (held n links contexts) e (sym p ∙ is))
+      (unchanged (ready .roomy) refl (ap Ended (sym (held-length links contexts n))) (subst (λ (b : Bool). Chained covers (held n links contexts) (only (not b) e) chains′) is h))
 
-  pub offered-new : (e : Period) {r : Growth} {links′ contexts′ chains′ : List ℕ} → covered covers (held n links contexts) e ≡ false
-      → Grows (append room (held n links contexts) e) r links links′ contexts contexts′ chains′
-      → Grows (offer covers room (held n links contexts) (e ∷ [])) r links links′ contexts contexts′ chains′
-  offered-new e p g = rw (offer-append covers room (held n links contexts) e p) g
+  -- its place in the chains is taken last
+  pub offered-new : (e : Period) {b : Bool} {r : Growth} {links′ contexts′ scanned chains′ : List ℕ} → b ≡ covered covers (held n links contexts) e
+      → Chained covers (held n links contexts) (only (not b) e) scanned → b ≡ false → ((d : Period) → covers e d ≡ true → linkState (e .link) ≡ linkState (d .link)) → length scanned ≡ length chains
+      → Appends (append room (held n links contexts) e) r n (linkState (e .link)) links links′ contexts contexts′ scanned chains′
+      → Grows covers (offer covers room (held n links contexts) (e ∷ [])) r links links′ contexts contexts′ chains′
+  offered-new e {r = r} {scanned = scanned} {chains′} p h is own long a =
+      rw (offer-append covers room (held n links contexts) e (sym p ∙ is)) (record { lent = a .lent; chained = at (ltb n room) refl })
+    where
+      gone : Chained covers (held n links contexts) (e ∷ []) scanned
+      gone = subst (λ (b : Bool). Chained covers (held n links contexts) (only (not b) e) scanned) is h
+
+      at : (b : Bool) → ltb n room ≡ b → (m : ℕ) → r ≡ Ended m → Chained covers (entries (append room (held n links contexts) e)) [] chains′
+      at true l m ends =
+          rw (append-room {room = room} (held n links contexts) e (omega (arith, ltb-true n room l, held-length links contexts n)), a .linked m ends)
+          (subst (λ (k : ℕ). Chained covers (held n links contexts ++ (e ∷ [])) [] (set (set scanned (16 + k) (getD scanned (linkState (e .link)) 0)) (linkState (e .link)) (suc k))) (held-length links contexts n)
+          (chained-append covers (held n links contexts) e gone (omega (arith, ltb-true n room l, long, held-length links contexts n, ready .roomy .chains-fit)) own (omega arith)))
+      at false l m ends =
+          absurd (never (sym (ap growthOf (append-full {room = room} (held n links contexts) e (omega (arith, ltb-false n room l, held-length links contexts n)))) ∙ sym (a .lent .answer) ∙ ends))
 
   module _ (by : Move) (q : ℕ) where
     -- q is a successor
     pub offered-some : {link : ℕ} {r : Growth} {links′ contexts′ chains′ : List ℕ} → bit (by .successors) q ≡ true → link ≡ periodLink q (by .letter) (by .parent)
-        → Grows (offer covers room (held n links contexts) (record { link = link; context = ofPairs (by .context) } ∷ [])) r links links′ contexts contexts′ chains′
-        → Grows (offer covers room (held n links contexts) (atState by q)) r links links′ contexts contexts′ chains′
+        → Grows covers (offer covers room (held n links contexts) (record { link = link; context = ofPairs (by .context) } ∷ [])) r links links′ contexts contexts′ chains′
+        → Grows covers (offer covers room (held n links contexts) (atState by q)) r links links′ contexts contexts′ chains′
     unfolding atState
     offered-some p e g = rw (p, ← e) g
 
     -- it is not
-    pub offered-none : bit (by .successors) q ≡ false → Grows (offer covers room (held n links contexts) (atState by q)) (Ended n) links links contexts contexts chains
+    pub offered-none : bit (by .successors) q ≡ false → Grows covers (offer covers room (held n links contexts) (atState by q)) (Ended n) links links contexts contexts chains
     unfolding atState
-    offered-none p = rw (p, offer-none covers room (held n links contexts)) (unchanged ready refl (ap Ended (sym (held-length links contexts n))))
+    offered-none p = rw (p, offer-none covers room (held n links contexts)) (unchanged (ready .roomy) refl (ap Ended (sym (held-length links contexts n))) (ready .chained))
 
 -- the same candidates by another name
 pub offered-same : (covers : Period → Period → Bool) (room : ℕ) (t : List Period) {cs ds : List Period} {r : Growth} {links links′ contexts contexts′ chains : List ℕ} → cs ≡ ds
-    → Grows (offer covers room t cs) r links links′ contexts contexts′ chains → Grows (offer covers room t ds) r links links′ contexts contexts′ chains
+    → Grows covers (offer covers room t cs) r links links′ contexts contexts′ chains → Grows covers (offer covers room t ds) r links links′ contexts contexts′ chains
 offered-same covers room t {r = r} {links} {links′} {contexts} {contexts′} {chains} e g =
-    subst (λ (cs : List Period). Grows (offer covers room t cs) r links links′ contexts contexts′ chains) e g
+    subst (λ (cs : List Period). Grows covers (offer covers room t cs) r links links′ contexts contexts′ chains) e g

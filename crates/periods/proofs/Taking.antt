@@ -40,18 +40,18 @@ module _ (covers : Period → Period → Bool) (next : ℕ → Period → List P
   unfoldable pub taking : ℕ → List Period → Outcome Period
   taking i t = grow covers next room (room - i) i t
 
-  pub take-start : {n : ℕ} {links contexts chains : List ℕ} → Ready room n links contexts chains
-      → Going room (grow covers next room room 0 (held n links contexts)) (taking 0) links links contexts contexts chains chains n
+  pub take-start : {n : ℕ} {links contexts chains : List ℕ} → Ready covers room n links contexts chains
+      → Going covers room (grow covers next room room 0 (held n links contexts)) (taking 0) links links contexts contexts chains chains n
   unfolding taking
   take-start {n} {links} {contexts} {chains} ready =
-      subst (λ (f : ℕ). Going room (grow covers next room f 0 (held n links contexts)) (taking 0) links links contexts contexts chains chains n) (sub-zero room)
+      subst (λ (f : ℕ). Going covers room (grow covers next room f 0 (held n links contexts)) (taking 0) links links contexts contexts chains chains n) (sub-zero room)
       (going ready (taking 0))
 
   -- ---- an entry after the other
 
   module _ (i : ℕ) {o : Outcome Period} {links₀ links contexts₀ contexts chains₀ chains : List ℕ} {n : ℕ}
-      (at : Going room o (taking i) links₀ links contexts₀ contexts chains₀ chains n) where
-    pub take-end : n ≤ i → Grows o (Ended n) links₀ links contexts₀ contexts chains
+      (at : Going covers room o (taking i) links₀ links contexts₀ contexts chains₀ chains n) where
+    pub take-end : n ≤ i → Grows covers o (Ended n) links₀ links contexts₀ contexts chains
     unfolding taking
     take-end h = going-end at (grow-end covers next room (room - i) (held n links contexts) (omega (arith, held-length links contexts n)))
 
@@ -59,41 +59,41 @@ module _ (covers : Period → Period → Bool) (next : ℕ → Period → List P
       split : taking i (held n links contexts) ≡ onward (offer covers room (held n links contexts) (next i (entryIn links contexts i))) (taking (i + 1))
       unfolding taking
       split =
-          grow-on covers room next i (held n links contexts) (entryIn links contexts i) (omega (arith, held-length links contexts n)) (omega (arith, held-length links contexts n, at .ready .within))
+          grow-on covers room next i (held n links contexts) (entryIn links contexts i) (omega (arith, held-length links contexts n)) (omega (arith, held-length links contexts n, at .ready .roomy .within))
           ∙ ap (λ (e : Period). onward (offer covers room (held n links contexts) (next i e)) (taking (i + 1))) (held-at links contexts n i (entryIn links contexts i) h)
 
       module _ {links′ contexts′ chains′ : List ℕ} where
-        pub take-full : {r : Growth} → r ≡ Full → Grows (offer covers room (held n links contexts) (next i (entryIn links contexts i))) r links links′ contexts contexts′ chains′
-            → Grows o Full links₀ links′ contexts₀ contexts′ chains′
-        take-full e g = going-full at covers (next i (entryIn links contexts i)) (taking (i + 1)) split e g
+        pub take-full : {r : Growth} → r ≡ Full → Grows covers (offer covers room (held n links contexts) (next i (entryIn links contexts i))) r links links′ contexts contexts′ chains′
+            → Grows covers o Full links₀ links′ contexts₀ contexts′ chains′
+        take-full e g = going-full at (next i (entryIn links contexts i)) (taking (i + 1)) split e g
 
-        pub take-on : {r : Growth} {m : ℕ} → r ≡ Ended m → Grows (offer covers room (held n links contexts) (next i (entryIn links contexts i))) r links links′ contexts contexts′ chains′
+        pub take-on : {r : Growth} {m : ℕ} → r ≡ Ended m → Grows covers (offer covers room (held n links contexts) (next i (entryIn links contexts i))) r links links′ contexts contexts′ chains′
             → length links′ ≡ length links → length contexts′ ≡ length contexts → length chains′ ≡ length chains
-            → Going room o (taking (i + 1)) links₀ links′ contexts₀ contexts′ chains₀ chains′ m
-        take-on e g ll cl tl = going-on at covers (next i (entryIn links contexts i)) (taking (i + 1)) split e g ll cl tl
+            → Going covers room o (taking (i + 1)) links₀ links′ contexts₀ contexts′ chains₀ chains′ m
+        take-on e g ll cl tl = going-on at (next i (entryIn links contexts i)) (taking (i + 1)) split e g ll cl tl
 
   -- ---- the first candidates before them
 
   unfoldable whole : List Period → List Period → Outcome Period
   whole first t = onward (offer covers room t first) (grow covers next room room 0)
 
-  module _ (first : List Period) {links contexts chains : List ℕ} (ready : Ready room 0 links contexts chains) {r : Growth} {links₁ contexts₁ chains₁ : List ℕ}
-      (g : Grows (offer covers room (held 0 links contexts) first) r links links₁ contexts contexts₁ chains₁) where
-    begun : Going room (table covers next room first) (whole first) links links contexts contexts chains chains 0
+  module _ (first : List Period) {links contexts chains : List ℕ} (ready : Ready covers room 0 links contexts chains) {r : Growth} {links₁ contexts₁ chains₁ : List ℕ}
+      (g : Grows covers (offer covers room (held 0 links contexts) first) r links links₁ contexts contexts₁ chains₁) where
+    begun : Going covers room (table covers next room first) (whole first) links links contexts contexts chains chains 0
     unfolding held values whole table
     begun = going ready (whole first)
 
-    pub table-full : r ≡ Full → Grows (table covers next room first) Full links links₁ contexts contexts₁ chains₁
+    pub table-full : r ≡ Full → Grows covers (table covers next room first) Full links links₁ contexts contexts₁ chains₁
     unfolding whole
-    table-full e = going-full begun covers first (grow covers next room room 0) refl e g
+    table-full e = going-full begun first (grow covers next room room 0) refl e g
 
     module _ {m : ℕ} (e : r ≡ Ended m) (ll : length links₁ ≡ length links) (cl : length contexts₁ ≡ length contexts) (tl : length chains₁ ≡ length chains) where
-      onto : Going room (table covers next room first) (grow covers next room room 0) links links₁ contexts contexts₁ chains chains₁ m
+      onto : Going covers room (table covers next room first) (grow covers next room room 0) links links₁ contexts contexts₁ chains chains₁ m
       unfolding whole
-      onto = going-on begun covers first (grow covers next room room 0) refl e g ll cl tl
+      onto = going-on begun first (grow covers next room room 0) refl e g ll cl tl
 
-      pub table-done : {q : Growth} {links₂ contexts₂ chains₂ : List ℕ} → Grows (grow covers next room room 0 (held m links₁ contexts₁)) q links₁ links₂ contexts₁ contexts₂ chains₂
-          → Grows (table covers next room first) q links links₂ contexts contexts₂ chains₂
+      pub table-done : {q : Growth} {links₂ contexts₂ chains₂ : List ℕ} → Grows covers (grow covers next room room 0 (held m links₁ contexts₁)) q links₁ links₂ contexts₁ contexts₂ chains₂
+          → Grows covers (table covers next room first) q links links₂ contexts contexts₂ chains₂
       table-done h =
           going-last onto (grow covers next room room 0 (held m links₁ contexts₁))
           (omega (arith, held-length links₁ contexts₁ m, grow-longer covers next room room 0 (held m links₁ contexts₁))) refl refl h

@@ -11,9 +11,17 @@ use Rattle.periods.specs.Periods.{Period}
 unfoldable pub lacking : ℕ → Context → Context
 lacking rows c = record { reach = bitAnd rows (2 ^ 64 - 1 - c .reach); through = bitAnd rows (2 ^ 64 - 1 - c .through) }
 
+-- what c has of them
+unfoldable pub having : ℕ → Context → Context
+having rows c = record { reach = bitAnd rows (c .reach); through = bitAnd rows (c .through) }
+
 -- c has nothing of d, in both numbers
 unfoldable pub apart : Context → Context → Bool
 apart c d = eqb (bitAnd (c .reach) (d .reach)) 0 && eqb (bitAnd (c .through) (d .through)) 0
+
+-- c has all of d, in both numbers
+unfoldable pub holds : Context → Context → Bool
+holds c d = eqb (bitAnd (d .reach) (2 ^ 64 - 1 - c .reach)) 0 && eqb (bitAnd (d .through) (2 ^ 64 - 1 - c .through)) 0
 
 -- an entry covers a candidate at the same state of A if it has nothing that the candidate lacks of the rows
 unfoldable pub covers : ℕ → Period → Period → Bool

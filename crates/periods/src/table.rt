@@ -11,7 +11,7 @@ ghost use Rattle.periods.specs.Periods.{Period};
 ghost use Rattle.periods.specs.Lent.{contextIn, entryIn, held};
 ghost use Rattle.periods.specs.Masks.{covers};
 ghost use Rattle.periods.specs.Chained.{Cleared};
-ghost use Rattle.periods.specs.Growing.{Ready, Grows};
+ghost use Rattle.periods.specs.Growing.{Roomy, Ready, Grows, Appends};
 ghost use Rattle.periods.specs.Candidates.{atState, atLetter, candidates, ofEntry};
 use crate::scan;
 use automata::Head;
@@ -58,9 +58,9 @@ fn append(
     link: u32,
     c: Pairs8,
 ) -> Growth
-    requires { ⌜ Ready room n (now links) (now contexts) (now chains) ⌝ }
-    ensures { λ r. ⌜ Grows (append room (held n (now (links .entry)) (now (contexts .entry))) (record { link = link; context = ofPairs c })) r
-        (now (links .entry)) (now (links .exit)) (now (contexts .entry)) (now (contexts .exit)) (now (chains .exit)) ⌝ }
+    requires { ⌜ Roomy room n (now links) (now contexts) (now chains) ⌝ }
+    ensures { λ r. ⌜ Appends (append room (held n (now (links .entry)) (now (contexts .entry))) (record { link = link; context = ofPairs c })) r n (linkState link)
+        (now (links .entry)) (now (links .exit)) (now (contexts .entry)) (now (contexts .exit)) (now (chains .entry)) (now (chains .exit)) ⌝ }
 {
     if n >= room {
         return Growth::Full;
@@ -85,8 +85,8 @@ fn offer(
     link: u32,
     c: Pairs8,
 ) -> Growth
-    requires { ⌜ Ready room n (now links) (now contexts) (now chains) ⌝ }
-    ensures { λ r. ⌜ Grows (offer (covers rows) room (held n (now (links .entry)) (now (contexts .entry))) (record { link = link; context = ofPairs c } ∷ [])) r
+    requires { ⌜ Ready (covers rows) room n (now links) (now contexts) (now chains) ⌝ }
+    ensures { λ r. ⌜ Grows (covers rows) (offer (covers rows) room (held n (now (links .entry)) (now (contexts .entry))) (record { link = link; context = ofPairs c } ∷ [])) r
         (now (links .entry)) (now (links .exit)) (now (contexts .entry)) (now (contexts .exit)) (now (chains .exit)) ⌝ }
 {
     if scan::covered(links, contexts, chains, n, link, c, rows) {
@@ -107,8 +107,8 @@ fn offer_at(
     q: u8,
 ) -> Growth
     requires { ⌜ (by .letter < 16) × (q < 16) ⌝ }
-    requires { ⌜ Ready room n (now links) (now contexts) (now chains) ⌝ }
-    ensures { λ r. ⌜ Grows (offer (covers rows) room (held n (now (links .entry)) (now (contexts .entry))) (atState by q)) r
+    requires { ⌜ Ready (covers rows) room n (now links) (now contexts) (now chains) ⌝ }
+    ensures { λ r. ⌜ Grows (covers rows) (offer (covers rows) room (held n (now (links .entry)) (now (contexts .entry))) (atState by q)) r
         (now (links .entry)) (now (links .exit)) (now (contexts .entry)) (now (contexts .exit)) (now (chains .exit)) ⌝ }
 {
     if members::has16(by.successors, q as usize) {
@@ -129,8 +129,8 @@ fn by_letter(
     by: Move,
 ) -> Growth
     requires { ⌜ by .letter < 16 ⌝ }
-    requires { ⌜ Ready room n (now links) (now contexts) (now chains) ⌝ }
-    ensures { λ r. ⌜ Grows (offer (covers rows) room (held n (now (links .entry)) (now (contexts .entry))) (gather 0 16 (atState by))) r
+    requires { ⌜ Ready (covers rows) room n (now links) (now contexts) (now chains) ⌝ }
+    ensures { λ r. ⌜ Grows (covers rows) (offer (covers rows) room (held n (now (links .entry)) (now (contexts .entry))) (gather 0 16 (atState by))) r
         (now (links .entry)) (now (links .exit)) (now (contexts .entry)) (now (contexts .exit)) (now (chains .exit)) ⌝ }
 {
     let mut count = n;
@@ -184,8 +184,8 @@ pub fn expand(
     word: Word,
 ) -> Growth
     requires { ⌜ word .state < 16 ⌝ }
-    requires { ⌜ Ready room n (now links) (now contexts) (now chains) ⌝ }
-    ensures { λ r. ⌜ Grows (offer (covers rows) room (held n (now (links .entry)) (now (contexts .entry)))
+    requires { ⌜ Ready (covers rows) room n (now links) (now contexts) (now chains) ⌝ }
+    ensures { λ r. ⌜ Grows (covers rows) (offer (covers rows) room (held n (now (links .entry)) (now (contexts .entry)))
         (candidates (now (model .entry)) (autOf (cell (now (rule .entry))) head) (word .state) (word .parent) (ofPairs (word .context)))) r
         (now (links .entry)) (now (links .exit)) (now (contexts .entry)) (now (contexts .exit)) (now (chains .exit)) ⌝ }
 {
@@ -231,8 +231,8 @@ fn take(
     i: usize,
 ) -> Growth
     requires { ⌜ i < n ⌝ }
-    requires { ⌜ Ready room n (now links) (now contexts) (now chains) ⌝ }
-    ensures { λ r. ⌜ Grows (offer (covers rows) room (held n (now (links .entry)) (now (contexts .entry)))
+    requires { ⌜ Ready (covers rows) room n (now links) (now contexts) (now chains) ⌝ }
+    ensures { λ r. ⌜ Grows (covers rows) (offer (covers rows) room (held n (now (links .entry)) (now (contexts .entry)))
         (ofEntry (now (model .entry)) (autOf (cell (now (rule .entry))) head) i (entryIn (now (links .entry)) (now (contexts .entry)) i))) r
         (now (links .entry)) (now (links .exit)) (now (contexts .entry)) (now (contexts .exit)) (now (chains .exit)) ⌝ }
 {
@@ -263,8 +263,8 @@ pub fn take_all(
     rule: &[[u8; 8]; 16],
     head: Head,
 ) -> Growth
-    requires { ⌜ Ready room n (now links) (now contexts) (now chains) ⌝ }
-    ensures { λ r. ⌜ Grows (grow (covers rows) (ofEntry (now (model .entry)) (autOf (cell (now (rule .entry))) head)) room room 0 (held n (now (links .entry)) (now (contexts .entry)))) r
+    requires { ⌜ Ready (covers rows) room n (now links) (now contexts) (now chains) ⌝ }
+    ensures { λ r. ⌜ Grows (covers rows) (grow (covers rows) (ofEntry (now (model .entry)) (autOf (cell (now (rule .entry))) head)) room room 0 (held n (now (links .entry)) (now (contexts .entry)))) r
         (now (links .entry)) (now (links .exit)) (now (contexts .entry)) (now (contexts .exit)) (now (chains .exit)) ⌝ }
 {
     let mut count = n;

@@ -20,7 +20,7 @@ idle-requires : tie.Need-idle-requires
 idle-requires c κs = search needs
 
 expand-requires : tie.Need-expand-requires
-expand-requires c κs = (search needs, ready-none (search needs) (search needs) (search needs) (search needs) (search needs))
+expand-requires c κs = (search needs, ready-none _ (search needs) (search needs) (search needs) (search needs) (search needs))
 
 enum-known-first : tie.Need-enum-known-first
 enum-known-first c = search needs
@@ -49,7 +49,7 @@ take-all-requires : tie.Need-take-all-requires
 take-all-requires c κs =
     let start = c .before .before .before .before .before .before .before .before .before .before .before .before .before .before .before .before .before .before .before .before .before .before .before .before .before .before in
     let called = c .before .before .before .before .before .before .before .before .before .before .before .before .expand in
-    ready-on (expand-requires (c .before .before .before .before .before .before .before .before .before .before .before .before .before) (start .κs) .1) _ _ (c .before .before .before .before .first .given .1) (called .ensures)
+    ready-on (expand-requires (c .before .before .before .before .before .before .before .before .before .before .before .before .before) (start .κs) .1) _ (c .before .before .before .before .first .given .1) (called .ensures)
     (called .kept .0) (called .kept .1 .0) (called .kept .1 .1 .0)
 
 same-length-4 : tie.Need-same-length-4

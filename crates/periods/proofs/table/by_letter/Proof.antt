@@ -15,7 +15,7 @@ use Rattle.periods.proofs.table.by_letter.Tie as tie
 abbrev Inv-loop : tie.InvT-loop
 Inv-loop links₀ contexts₀ chains₀ room n rows by count₀ q₀ links contexts chains count q =
     (q ≤ 16)
-    × Going room (offer (covers rows) room (held n links₀ contexts₀) (gather 0 16 (atState by))) (from (covers rows) room (atState by) 16 q)
+    × Going (covers rows) room (offer (covers rows) room (held n links₀ contexts₀) (gather 0 16 (atState by))) (from (covers rows) room (atState by) 16 q)
     links₀ links contexts₀ contexts chains₀ chains count
 
 abbrev μ-loop : tie.MeasureT-loop

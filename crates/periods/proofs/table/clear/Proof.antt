@@ -4,7 +4,7 @@ use Prim.Native.Nat.{_-_, _≤_}
 use native.Mathlib.Omega.{arith}
 use lib.ListN.{length}
 use Rattle.periods.specs.Chained.{Cleared}
-use Rattle.periods.proofs.Appended.{cleared}
+use Rattle.periods.proofs.Chain.{cleared}
 use borrow.Author.Needs.{needs}
 use Rattle.periods.proofs.table.clear.Statement.{statement}
 use Rattle.periods.proofs.table.clear.Tie as tie

@@ -16,7 +16,7 @@ use Rattle.periods.proofs.table.expand.Tie as tie
 abbrev Inv-loop : tie.InvT-loop
 Inv-loop links₀ contexts₀ chains₀ room n rows model rule head word count₀ x₀ links contexts chains count x =
     (x ≤ 16)
-    × Going room (offer (covers rows) room (held n links₀ contexts₀) (candidates model (autOf (cell rule) head) (word .state) (word .parent) (ofPairs (word .context)))) (from (covers rows) room (atLetter model (autOf (cell rule) head) (word .state) (word .parent) (ofPairs (word .context))) 16 x)
+    × Going (covers rows) room (offer (covers rows) room (held n links₀ contexts₀) (candidates model (autOf (cell rule) head) (word .state) (word .parent) (ofPairs (word .context)))) (from (covers rows) room (atLetter model (autOf (cell rule) head) (word .state) (word .parent) (ofPairs (word .context))) 16 x)
     links₀ links contexts₀ contexts chains₀ chains count
 
 abbrev μ-loop : tie.MeasureT-loop

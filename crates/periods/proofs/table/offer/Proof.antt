@@ -1,5 +1,5 @@
 -- `table::offer` meets its contract: the candidate is covered and nothing changes, or it is appended. Assumes nothing.
-use mathlib.Core.Path.{sym, _∙_}
+use Rattle.periods.proofs.Masks.{covers-state}
 use Rattle.periods.proofs.Offered.{offered-covered, offered-new}
 use borrow.Author.Needs.{needs}
 use Rattle.periods.proofs.table.offer.Statement.{statement}
@@ -18,7 +18,7 @@ same-length-3 : tie.Need-same-length-3
 same-length-3 c = search needs
 
 returns : tie.Need-returns
-returns c = offered-covered _ (c .before .before .before .before .before .before .before .before .pre) _ (sym (c .before .covered .ensures) ∙ c .if1 .taken)
+returns c = offered-covered _ (c .before .before .before .before .before .before .before .before .before .before .pre) _ (c .before .before .before .covered .ensures .0) (c .before .before .before .covered .ensures .1) (c .if1 .taken)
 
 append-requires : tie.Need-append-requires
 append-requires c κs = search needs
@@ -33,7 +33,8 @@ same-length-6 : tie.Need-same-length-6
 same-length-6 c = search needs
 
 returns-2 : tie.Need-returns-2
-returns-2 c = offered-new _ (c .before .before .before .before .before .before .before .before .before .before .before .before .before .before .before .before .before .before .pre) _ (sym (c .before .before .before .before .before .before .before .before .before .before .before .covered .ensures) ∙ c .before .before .before .before .before .before .before .before .before .before .if1 .left) (c .before .before .before .before .before .before .append .ensures)
+returns-2 c =
+    offered-new _ (c .before .before .before .before .before .before .before .before .before .before .before .before .before .before .before .before .before .before .before .before .pre) _ (c .before .before .before .before .before .before .before .before .before .before .before .before .before .covered .ensures .0) (c .before .before .before .before .before .before .before .before .before .before .before .before .before .covered .ensures .1) (c .before .before .before .before .before .before .before .before .before .before .if1 .left) (covers-state _ _) (c .before .before .before .before .before .before .before .before .before .before .before .before .before .covered .kept .1 .1 .0) (c .before .before .before .before .before .before .append .ensures)
 
 pub offer-spec : {M : Type 1} → statement M
 offer-spec =

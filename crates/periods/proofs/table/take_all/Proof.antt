@@ -13,7 +13,7 @@ use Rattle.periods.proofs.table.take_all.Tie as tie
 
 abbrev Inv-loop : tie.InvT-loop
 Inv-loop links₀ contexts₀ chains₀ room n rows model rule head count₀ i₀ links contexts chains count i =
-    Going room (grow (covers rows) (ofEntry model (autOf (cell rule) head)) room room 0 (held n links₀ contexts₀)) (taking (covers rows) (ofEntry model (autOf (cell rule) head)) room i)
+    Going (covers rows) room (grow (covers rows) (ofEntry model (autOf (cell rule) head)) room room 0 (held n links₀ contexts₀)) (taking (covers rows) (ofEntry model (autOf (cell rule) head)) room i)
     links₀ links contexts₀ contexts chains₀ chains count
 
 abbrev μ-loop : tie.MeasureT-loop
