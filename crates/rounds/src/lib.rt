@@ -173,23 +173,24 @@ fn at_state(
     Rounds::Through { p, t }
 }
 
-// The rounds of each state, rising.
-fn at_states(
+// The rounds of each state, rising. The scratch serves within a round, first the growth of its table and then its tests: what it holds at the end of
+// either does not matter.
+pub fn all(
     stems: &[u32],
     largest: &[u32],
     links: &mut [u32],
     contexts: &mut [u64],
-    scratch: &mut [u16],
     room: usize,
     model: &[[u16; 16]; 16],
     model_head: Head,
     rule: &[[u8; 8]; 16],
     rule_head: Head,
 ) -> Rounds
-    requires { ⌜ Ready room 0 (now stems) (now links) (now contexts) (now scratch) ⌝ }
-    requires { ⌜ length (now largest) ≤ 4096 ⌝ }
+    requires { ⌜ (length (now stems) ≤ 4096) × (length (now largest) ≤ 4096) ⌝ }
+    requires { ⌜ (1 ≤ room) × (room ≤ 65535) × (room ≤ length (now links)) × (2 * room ≤ length (now contexts)) ⌝ }
     ensures { λ r. ⌜ Answers (course (autOf (cell (now (model .entry))) «model_head») (autOf (cell (now (rule .entry))) «rule_head») (now (stems .entry)) room (rounds (autOf (cell (now (model .entry))) «model_head») (autOf (cell (now (rule .entry))) «rule_head») (now (largest .entry))) 0 0) r (now (links .exit)) ⌝ }
 {
+    let mut scratch = [0u16; 65551];
     let mut p = 0;
     let mut t = 0;
     let mut s: u8 = 0;
@@ -199,7 +200,7 @@ fn at_states(
             largest,
             links,
             contexts,
-            scratch,
+            &mut scratch,
             room,
             s,
             model,
@@ -221,35 +222,4 @@ fn at_states(
         s += 1;
     }
     Rounds::Through { p, t }
-}
-
-// All rounds. The scratch serves within a round, first the growth of its table and then its tests: what it holds at the end of either does not matter.
-pub fn all(
-    stems: &[u32],
-    largest: &[u32],
-    links: &mut [u32],
-    contexts: &mut [u64],
-    room: usize,
-    model: &[[u16; 16]; 16],
-    model_head: Head,
-    rule: &[[u8; 8]; 16],
-    rule_head: Head,
-) -> Rounds
-    requires { ⌜ (length (now stems) ≤ 4096) × (length (now largest) ≤ 4096) ⌝ }
-    requires { ⌜ (1 ≤ room) × (room ≤ 65535) × (room ≤ length (now links)) × (2 * room ≤ length (now contexts)) ⌝ }
-    ensures { λ r. ⌜ Answers (course (autOf (cell (now (model .entry))) «model_head») (autOf (cell (now (rule .entry))) «rule_head») (now (stems .entry)) room (rounds (autOf (cell (now (model .entry))) «model_head») (autOf (cell (now (rule .entry))) «rule_head») (now (largest .entry))) 0 0) r (now (links .exit)) ⌝ }
-{
-    let mut scratch = [0u16; 65551];
-    at_states(
-        stems,
-        largest,
-        links,
-        contexts,
-        &mut scratch,
-        room,
-        model,
-        model_head,
-        rule,
-        rule_head,
-    )
 }

@@ -4,6 +4,7 @@ ghost use Prim.Native.Nat.{_*_, _≤_};
 ghost use lib.ListN.{length, replicate};
 ghost use Rattle.automata.specs.Loaded.{cell, autOf};
 ghost use Rattle.walk.specs.Walk.{walk};
+ghost use Rattle.search.specs.declared.Ending.the-variants.{StemsFull};
 ghost use Rattle.search.specs.Contract.{Prepared, Concluded, Told, Grown, finish, countsIn, countsBy, verdictBy, Showable, Shows};
 use automata::Head;
 use growth::Growth;
@@ -99,6 +100,13 @@ fn conclude(
     show(found, stems, largest.len(), links, stem, period)
 }
 
+// The ending where a stem table lacks room: no round was begun.
+fn stems_full(table: u8, u: usize, w: usize) -> Ending
+    ensures { λ r. ⌜ r ≡ StemsFull table (record { u = u; w = w; p = 0; t = 0 }) ⌝ }
+{
+    Ending::StemsFull(table, Counts { u, w, p: 0, t: 0 })
+}
+
 // Both stem tables, and what follows from them. The links and the contexts are left as the last period table has them.
 fn tell(
     model: &[[u16; 16]; 16],
@@ -131,27 +139,11 @@ fn tell(
         false,
     );
     let Growth::Ended(u) = first else {
-        return Ending::StemsFull(
-            0,
-            Counts {
-                u: stem_room,
-                w: 0,
-                p: 0,
-                t: 0,
-            },
-        );
+        return stems_full(0, stem_room, 0);
     };
     let second = stems::grow(largest, stem_room, model, model_head, rule, rule_head, true);
     let Growth::Ended(w) = second else {
-        return Ending::StemsFull(
-            1,
-            Counts {
-                u,
-                w: stem_room,
-                p: 0,
-                t: 0,
-            },
-        );
+        return stems_full(1, u, stem_room);
     };
     conclude(
         &smallest[0..u],

@@ -19,14 +19,17 @@ enum-known-first c = search needs
 enum-told : tie.Need-enum-told
 enum-told c = search needs
 
+stems-full-requires : tie.Need-stems-full-requires
+stems-full-requires c κs = search needs
+
 same-length : tie.Need-same-length
 same-length c = search needs
 
 returns : tie.Need-returns
 returns c =
-    let start = c .before .before .before .before .before .before .before .before .before .before .before .before in
+    let start = c .before .before .before .before .before .before .before .before .before .before .before .before .before in
     let args = start .args in
-    told-u (autOf (cell (args .model .now)) (args .model-head)) (autOf (cell (args .rule .now)) (args .rule-head)) (args .stem-room) (args .period-room) (c .before .before .before .before .grow .ensures) (c .enum-told .given .1)
+    rw (c .stems-full .ensures) (told-u (autOf (cell (args .model .now)) (args .model-head)) (autOf (cell (args .rule .now)) (args .rule-head)) (args .stem-room) (args .period-room) (c .before .before .before .before .before .grow .ensures) (c .before .enum-told .given .1))
 
 grow-requires-2 : tie.Need-grow-requires-2
 unfolding autOf
@@ -41,6 +44,9 @@ enum-known-second c = search needs
 enum-told-2 : tie.Need-enum-told-2
 enum-told-2 c = search needs
 
+stems-full-requires-2 : tie.Need-stems-full-requires-2
+stems-full-requires-2 c κs = search needs
+
 same-length-2 : tie.Need-same-length-2
 same-length-2 c = search needs
 
@@ -49,9 +55,9 @@ same-length-3 c = search needs
 
 returns-2 : tie.Need-returns-2
 returns-2 c =
-    let start = c .before .before .before .before .before .before .before .before .before .before .before .before .before .before .before .before .before .before .before in
+    let start = c .before .before .before .before .before .before .before .before .before .before .before .before .before .before .before .before .before .before .before .before in
     let args = start .args in
-    told-w (autOf (cell (args .model .now)) (args .model-head)) (autOf (cell (args .rule .now)) (args .rule-head)) (args .stem-room) (args .period-room) (c .before .before .before .before .before .before .before .before .before .before .before .grow .ensures) (c .before .before .before .before .before .before .before .first .given .1) (c .before .before .before .before .grow2 .ensures) (c .enum-told2 .given .1)
+    rw (c .stems-full2 .ensures) (told-w (autOf (cell (args .model .now)) (args .model-head)) (autOf (cell (args .rule .now)) (args .rule-head)) (args .stem-room) (args .period-room) (c .before .before .before .before .before .before .before .before .before .before .before .before .grow .ensures) (c .before .before .before .before .before .before .before .before .first .given .1) (c .before .before .before .before .before .grow2 .ensures) (c .before .enum-told2 .given .1))
 
 sub-conclude : tie.Need-sub-conclude
 sub-conclude c = search needs
@@ -114,11 +120,13 @@ tell-spec =
     grow-requires
     enum-known-first
     enum-told
+    stems-full-requires
     same-length
     returns
     grow-requires-2
     enum-known-second
     enum-told-2
+    stems-full-requires-2
     same-length-2
     same-length-3
     returns-2
