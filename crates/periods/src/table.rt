@@ -118,7 +118,7 @@ fn offer_at(
     Growth::Ended(n)
 }
 
-// The candidates by one letter, successors rising; their context is the same.
+// The candidates by one letter, successors rising, until none is left; their context is the same.
 fn by_letter(
     links: &mut [u32],
     contexts: &mut [u64],
@@ -135,12 +135,14 @@ fn by_letter(
 {
     let mut count = n;
     let mut q = 0u8;
-    while q < 16 {
+    let mut rest = by.successors;
+    while rest != 0 {
         let Growth::Ended(more) = offer_at(links, contexts, chains, room, count, rows, by, q) else {
             return Growth::Full;
         };
         count = more;
         q += 1;
+        rest = rest >> 1;
     }
     Growth::Ended(count)
 }
