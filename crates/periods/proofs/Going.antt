@@ -94,6 +94,19 @@ module _ {covers : Period → Period → Bool} {room : ℕ} {o : Outcome Period}
           chained = λ m is. g .chained m (e ∙ is);
         })
 
+  -- the rest by another name
+  pub going-as : (again : List Period → Outcome Period) → again (held n links contexts) ≡ rest (held n links contexts)
+      → Going covers room o again links₀ links contexts₀ contexts chains₀ chains n
+  going-as again e = record {
+    ready = at .ready;
+    goal = e ∙ at .goal;
+    links-left = at .links-left;
+    contexts-left = at .contexts-left;
+    links-long = at .links-long;
+    contexts-long = at .contexts-long;
+    chains-long = at .chains-long;
+  }
+
   -- nothing is left to do
   pub going-end : rest (held n links contexts) ≡ ended (held n links contexts) → Grows covers o (Ended n) links₀ links contexts₀ contexts chains
   going-end is =

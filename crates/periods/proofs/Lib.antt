@@ -11,5 +11,6 @@ pub mod Appended
 pub mod Offered
 pub mod Going
 pub mod Loop
+pub mod Rest
 pub mod Candidates
 pub mod Taking

@@ -1,19 +1,25 @@
 -- The loop over the numbers below k that offers, for each in turn, its candidates. Assumes nothing.
-use mathlib.Core.Path.{_≡_, subst}
+use mathlib.Core.Path.{_≡_, refl, ap, ap₂, _∙_, subst}
 use mathlib.Core.Bool.{Bool}
-use mathlib.Core.List.{List}
-use Prim.Native.Nat.{ℕ, _+_, _-_, _≤_, _<_}
+use mathlib.Core.List.{List, [], _++_}
+use Prim.Native.Nat.{ℕ, zero, suc, _+_, _-_, _≤_, _<_}
 use native.Mathlib.Nat.{sub-zero}
+use native.Mathlib.Omega.{arith}
 use lib.ListN.{length}
 use Rattle.growth.specs.declared.Growth.{Growth}
 use Rattle.growth.specs.declared.Growth.the-variants.{Ended, Full}
 use Rattle.growth.specs.Grow.{Outcome, offer}
 use Rattle.growth.specs.Steps.{gather}
-use Rattle.growth.proofs.Offering.{gather-on, gather-done}
+use Rattle.growth.proofs.Offering.{offer-none, gather-on, gather-done}
 use Rattle.periods.specs.Periods.{Period}
 use Rattle.periods.specs.Lent.{held}
 use Rattle.periods.specs.Growing.{Ready, Grows}
 use Rattle.periods.proofs.Going.{Going, going, going-end, going-full, going-on}
+
+gather-none : (f : ℕ → List Period) (i k : ℕ) → ((j : ℕ) → i ≤ j → f j ≡ []) → gather i k f ≡ []
+unfolding gather
+gather-none f i zero h = refl
+gather-none f i (suc k) h = ap₂ _++_ (h i (omega arith)) (gather-none f (suc i) k (λ j l. h j (omega arith)))
 
 module _ (covers : Period → Period → Bool) (room : ℕ) (f : ℕ → List Period) (k : ℕ) where
   -- what the numbers from i on give
@@ -32,6 +38,11 @@ module _ (covers : Period → Period → Bool) (room : ℕ) (f : ℕ → List Pe
     pub loop-end : k ≤ i → Grows covers o (Ended n) links₀ links contexts₀ contexts chains
     unfolding from
     loop-end h = going-end at (gather-done covers room f k i (held n links contexts) h)
+
+    -- or no number from i on has a candidate
+    pub loop-stop : ((j : ℕ) → i ≤ j → f j ≡ []) → Grows covers o (Ended n) links₀ links contexts₀ contexts chains
+    unfolding from
+    loop-stop h = going-end at (ap (offer covers room (held n links contexts)) (gather-none f i (k - i) h) ∙ offer-none covers room (held n links contexts))
 
     module _ (h : i < k) {links′ contexts′ chains′ : List ℕ} where
       pub loop-full : {r : Growth} → r ≡ Full → Grows covers (offer covers room (held n links contexts) (f i)) r links links′ contexts contexts′ chains′

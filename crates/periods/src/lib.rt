@@ -42,29 +42,15 @@ pub fn grow(
         parent: 65535,
         context: eight::idle((rule_head.accepting % 256) as u8),
     };
-    let Growth::Ended(first) = table::expand(
+    table::build(
         links,
         contexts,
         chains,
         room,
-        0,
         rows,
         model,
         rule,
         rule_head,
         word,
-    ) else {
-        return Growth::Full;
-    };
-    table::take_all(
-        links,
-        contexts,
-        chains,
-        room,
-        first,
-        rows,
-        model,
-        rule,
-        rule_head,
     )
 }

@@ -1,14 +1,14 @@
 //! Candidates offered to the period table: one, those of a letter, those of an entry.
 ghost use mathlib.Core.Path.{_≡_};
-ghost use mathlib.Core.List.{[], _∷_};
+ghost use mathlib.Core.List.{_∷_};
 ghost use Prim.Native.Nat.{_+_, _*_, _<_, _≤_};
 ghost use lib.ListN.{length, getD};
 ghost use Rattle.bits.specs.Fields.{linkState};
-ghost use Rattle.growth.specs.Grow.{append, offer, grow};
+ghost use Rattle.growth.specs.Grow.{append, offer, table};
 ghost use Rattle.growth.specs.Steps.{gather};
 ghost use Rattle.automata.specs.Loaded.{cell, autOf, ofPairs};
 ghost use Rattle.periods.specs.Periods.{Period};
-ghost use Rattle.periods.specs.Lent.{contextIn, entryIn, held};
+ghost use Rattle.periods.specs.Lent.{contextIn, held};
 ghost use Rattle.periods.specs.Masks.{covers};
 ghost use Rattle.periods.specs.Chained.{Cleared};
 ghost use Rattle.periods.specs.Growing.{Roomy, Ready, Grows, Appends};
@@ -74,28 +74,7 @@ fn append(
     Growth::Ended(n + 1)
 }
 
-// A candidate is dropped where it is covered, and else appended.
-fn offer(
-    links: &mut [u32],
-    contexts: &mut [u64],
-    chains: &mut [u16],
-    room: usize,
-    n: usize,
-    rows: u64,
-    link: u32,
-    c: Pairs8,
-) -> Growth
-    requires { ⌜ Ready (covers rows) room n (now links) (now contexts) (now chains) ⌝ }
-    ensures { λ r. ⌜ Grows (covers rows) (offer (covers rows) room (held n (now (links .entry)) (now (contexts .entry))) (record { link = link; context = ofPairs c } ∷ [])) r
-        (now (links .entry)) (now (links .exit)) (now (contexts .entry)) (now (contexts .exit)) (now (chains .exit)) ⌝ }
-{
-    if scan::covered(links, contexts, chains, n, link, c, rows) {
-        return Growth::Ended(n);
-    }
-    append(links, contexts, chains, room, n, link, c)
-}
-
-// The candidate at the state q, if q is a successor.
+// The candidate at the state q, if q is a successor: dropped where it is covered, and else appended.
 fn offer_at(
     links: &mut [u32],
     contexts: &mut [u64],
@@ -111,14 +90,17 @@ fn offer_at(
     ensures { λ r. ⌜ Grows (covers rows) (offer (covers rows) room (held n (now (links .entry)) (now (contexts .entry))) (atState by q)) r
         (now (links .entry)) (now (links .exit)) (now (contexts .entry)) (now (contexts .exit)) (now (chains .exit)) ⌝ }
 {
-    if members::has16(by.successors, q as usize) {
-        let link = entries::period_link(q, by.letter, by.parent);
-        return offer(links, contexts, chains, room, n, rows, link, by.context);
+    if !members::has16(by.successors, q as usize) {
+        return Growth::Ended(n);
     }
-    Growth::Ended(n)
+    let link = entries::period_link(q, by.letter, by.parent);
+    if scan::covered(links, contexts, chains, n, link, by.context, rows) {
+        return Growth::Ended(n);
+    }
+    append(links, contexts, chains, room, n, link, by.context)
 }
 
-// The candidates by one letter, successors rising; their context is the same.
+// The candidates by one letter, successors rising, until none is left; their context is the same.
 fn by_letter(
     links: &mut [u32],
     contexts: &mut [u64],
@@ -135,12 +117,14 @@ fn by_letter(
 {
     let mut count = n;
     let mut q = 0u8;
-    while q < 16 {
+    let mut rest = by.successors;
+    while rest != 0 {
         let Growth::Ended(more) = offer_at(links, contexts, chains, room, count, rows, by, q) else {
             return Growth::Full;
         };
         count = more;
         q += 1;
+        rest = rest >> 1;
     }
     Growth::Ended(count)
 }
@@ -171,7 +155,7 @@ fn step(model: &[[u16; 16]; 16], rule: &[[u8; 8]; 16], head: Head, word: Word, x
 }
 
 // The candidates of a word, letters rising.
-pub fn expand(
+fn expand(
     links: &mut [u32],
     contexts: &mut [u64],
     chains: &mut [u16],
@@ -217,60 +201,30 @@ fn word_at(links: &[u32], contexts: &[u64], i: usize) -> Word
     }
 }
 
-// The candidates of the entry at i.
-fn take(
+// The table that grows from the candidates of a first word: these, and then those of the entries in order, of those that are appended meanwhile too,
+// until none is left. No more than `room` are ever there.
+pub fn build(
     links: &mut [u32],
     contexts: &mut [u64],
     chains: &mut [u16],
     room: usize,
-    n: usize,
     rows: u64,
     model: &[[u16; 16]; 16],
     rule: &[[u8; 8]; 16],
     head: Head,
-    i: usize,
+    first: Word,
 ) -> Growth
-    requires { ⌜ i < n ⌝ }
-    requires { ⌜ Ready (covers rows) room n (now links) (now contexts) (now chains) ⌝ }
-    ensures { λ r. ⌜ Grows (covers rows) (offer (covers rows) room (held n (now (links .entry)) (now (contexts .entry)))
-        (ofEntry (now (model .entry)) (autOf (cell (now (rule .entry))) head) i (entryIn (now (links .entry)) (now (contexts .entry)) i))) r
+    requires { ⌜ first .state < 16 ⌝ }
+    requires { ⌜ Ready (covers rows) room 0 (now links) (now contexts) (now chains) ⌝ }
+    ensures { λ r. ⌜ Grows (covers rows) (table (covers rows) (ofEntry (now (model .entry)) (autOf (cell (now (rule .entry))) head)) room
+        (candidates (now (model .entry)) (autOf (cell (now (rule .entry))) head) (first .state) (first .parent) (ofPairs (first .context)))) r
         (now (links .entry)) (now (links .exit)) (now (contexts .entry)) (now (contexts .exit)) (now (chains .exit)) ⌝ }
 {
-    let word = word_at(links, contexts, i);
-    expand(
-        links,
-        contexts,
-        chains,
-        room,
-        n,
-        rows,
-        model,
-        rule,
-        head,
-        word,
-    )
-}
-
-// The entries taken in order, those that are appended meanwhile too, until none is left. No more than `room` are ever there.
-pub fn take_all(
-    links: &mut [u32],
-    contexts: &mut [u64],
-    chains: &mut [u16],
-    room: usize,
-    n: usize,
-    rows: u64,
-    model: &[[u16; 16]; 16],
-    rule: &[[u8; 8]; 16],
-    head: Head,
-) -> Growth
-    requires { ⌜ Ready (covers rows) room n (now links) (now contexts) (now chains) ⌝ }
-    ensures { λ r. ⌜ Grows (covers rows) (grow (covers rows) (ofEntry (now (model .entry)) (autOf (cell (now (rule .entry))) head)) room room 0 (held n (now (links .entry)) (now (contexts .entry)))) r
-        (now (links .entry)) (now (links .exit)) (now (contexts .entry)) (now (contexts .exit)) (now (chains .exit)) ⌝ }
-{
-    let mut count = n;
+    let mut word = first;
+    let mut count = 0;
     let mut i = 0;
-    while i < count {
-        let Growth::Ended(more) = take(
+    loop {
+        let Growth::Ended(more) = expand(
             links,
             contexts,
             chains,
@@ -280,12 +234,15 @@ pub fn take_all(
             model,
             rule,
             head,
-            i,
+            word,
         ) else {
             return Growth::Full;
         };
+        if i >= more {
+            return Growth::Ended(more);
+        }
+        word = word_at(links, contexts, i);
         count = more;
         i += 1;
     }
-    Growth::Ended(count)
 }

@@ -1,5 +1,4 @@
 -- `table::by_letter` meets its contract. The loop's invariant: what the states from q on give is what all give. Assumes nothing.
-use Prim.Native.Nat.{_-_, _≤_}
 use native.Mathlib.Omega.{arith}
 use Rattle.growth.specs.Grow.{offer}
 use Rattle.growth.specs.Steps.{gather}
@@ -7,25 +6,26 @@ use Rattle.periods.specs.Lent.{held}
 use Rattle.periods.specs.Masks.{covers}
 use Rattle.periods.proofs.Going.{Going}
 use Rattle.periods.specs.Candidates.{atState}
-use Rattle.periods.proofs.Loop.{from, loop-start, loop-end, loop-full, loop-on}
+use Rattle.periods.proofs.Rest.{Rest, rest-start, rest-half, rest-low, rest-none}
+use Rattle.periods.proofs.Loop.{from, loop-start, loop-stop, loop-full, loop-on}
 use borrow.Author.Needs.{needs}
 use Rattle.periods.proofs.table.by_letter.Statement.{statement}
 use Rattle.periods.proofs.table.by_letter.Tie as tie
 
 abbrev Inv-loop : tie.InvT-loop
-Inv-loop links₀ contexts₀ chains₀ room n rows by count₀ q₀ links contexts chains count q =
-    (q ≤ 16)
+Inv-loop links₀ contexts₀ chains₀ room n rows by count₀ q₀ rest₀ links contexts chains count q rest =
+    Rest (by .successors) q rest
     × Going (covers rows) room (offer (covers rows) room (held n links₀ contexts₀) (gather 0 16 (atState by))) (from (covers rows) room (atState by) 16 q)
     links₀ links contexts₀ contexts chains₀ chains count
 
 abbrev μ-loop : tie.MeasureT-loop
-μ-loop links₀ contexts₀ chains₀ room n rows by count₀ q₀ links contexts chains count q = 16 - q
+μ-loop links₀ contexts₀ chains₀ room n rows by count₀ q₀ rest₀ links contexts chains count q rest = rest
 
 loop-holds : tie.Need-loop-holds Inv-loop μ-loop
-loop-holds c = (search needs, loop-start _ _ _ _ (c .before .before .before .pre .1))
+loop-holds c = (rest-start _ (omega arith), loop-start _ _ _ _ (c .before .before .before .pre .1))
 
 offer-at-requires : tie.Need-offer-at-requires Inv-loop μ-loop
-offer-at-requires c κs = search needs
+offer-at-requires c κs = ((search needs, rest-low (c .before .before .before .before .loop .inv .0) (omega arith)), search needs)
 
 enum-known-more : tie.Need-enum-known-more Inv-loop μ-loop
 enum-known-more c = search needs
@@ -44,11 +44,11 @@ same-length-3 c = search needs
 
 returns : tie.Need-returns Inv-loop μ-loop
 returns c =
-    loop-full _ _ _ _ _ (c .before .before .before .before .before .before .before .before .before .before .before .before .before .loop .inv .1) (omega arith) (c .enum-told .given .1)
+    loop-full _ _ _ _ _ (c .before .before .before .before .before .before .before .before .before .before .before .before .before .loop .inv .1) (rest-low (c .before .before .before .before .before .before .before .before .before .before .before .before .before .loop .inv .0) (omega arith)) (c .enum-told .given .1)
     (c .before .before .before .before .before .before .before .before .offer-at .ensures)
 
 add-q : tie.Need-add-q Inv-loop μ-loop
-add-q c = search needs
+add-q c = omega (arith, rest-low (c .before .before .before .before .before .before .before .before .before .before .before .before .before .before .loop .inv .0) (omega arith))
 
 loop-less : tie.Need-loop-less Inv-loop μ-loop
 loop-less c = search needs
@@ -56,8 +56,8 @@ loop-less c = search needs
 loop-again : tie.Need-loop-again Inv-loop μ-loop
 loop-again c =
     let called = c .before .before .before .before .before .before .before .before .before .offer-at in (
-      search needs,
-      loop-on _ _ _ _ _ (c .before .before .before .before .before .before .before .before .before .before .before .before .before .before .loop .inv .1) (omega arith) (c .before .more .given .1) (called .ensures)
+      rest-half (c .before .before .before .before .before .before .before .before .before .before .before .before .before .before .loop .inv .0),
+      loop-on _ _ _ _ _ (c .before .before .before .before .before .before .before .before .before .before .before .before .before .before .loop .inv .1) (rest-low (c .before .before .before .before .before .before .before .before .before .before .before .before .before .before .loop .inv .0) (omega arith)) (c .before .more .given .1) (called .ensures)
           (called .kept .0) (called .kept .1 .0) (called .kept .1 .1 .0),
     )
 
@@ -71,7 +71,7 @@ same-length-6 : tie.Need-same-length-6 Inv-loop μ-loop
 same-length-6 c = search needs
 
 returns-2 : tie.Need-returns-2 Inv-loop μ-loop
-returns-2 c = loop-end _ _ _ _ _ (c .before .loop .inv .1) (c .loop-test .left)
+returns-2 c = loop-stop _ _ _ _ _ (c .before .loop .inv .1) (rest-none _ (c .before .loop .inv .0) (c .loop-test .left))
 
 pub by-letter-spec : {M : Type 1} → statement M
 by-letter-spec =
