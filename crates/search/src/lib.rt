@@ -1,6 +1,5 @@
 //! The walk on loaded automata and lent tables.
 ghost use mathlib.Core.Path.{_≡_};
-ghost use Prim.Native.Nat.{_*_, _≤_};
 ghost use lib.ListN.{length, replicate};
 ghost use Rattle.automata.specs.Loaded.{cell, autOf};
 ghost use Rattle.walk.specs.Walk.{walk};
