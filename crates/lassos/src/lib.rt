@@ -1,6 +1,5 @@
 //! The lassos of one round: each stem at s with target inside w's, with each period at s, tested in order up to the first rejected one.
 ghost use mathlib.Core.Path.{_≡_};
-ghost use mathlib.Core.Bool.{false};
 ghost use Prim.Native.Nat.{_+_, _*_, _<_, _≤_};
 ghost use lib.ListN.{length};
 ghost use Rattle.bits.specs.Sets.{meets};

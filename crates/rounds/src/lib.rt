@@ -42,7 +42,7 @@ fn larger(a: usize, b: usize) -> usize
     a
 }
 
-// What the tests of a table of so many entries come to, where p was the most entries before.
+// What the tests of a table of this size come to; before it, the largest table had `before` entries.
 fn counted(found: Found, before: usize, size: usize) -> Rounds
     ensures { λ r. ⌜ r ≡ answered size before found ⌝ }
 {

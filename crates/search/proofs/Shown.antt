@@ -1,9 +1,9 @@
 -- The lasso that the rounds find: its indices are those of entries, whose words can be read back; and the finish, read off the answer. Assumes nothing.
 use mathlib.Core.Path.{_≡_, refl, sym, ap, _∙_, subst}
 use mathlib.Core.Logic.{_⊎_}
-use mathlib.Core.Bool.{true}
+use mathlib.Core.Bool.{true, false}
 use mathlib.Core.List.{List, [], _∷_}
-use Prim.Native.Nat.{ℕ, max, _≤_, _<_}
+use Prim.Native.Nat.{ℕ, _*_, max, _≤_, _<_}
 use native.Mathlib.Omega.{arith}
 use lib.ListN.{length, getD, take, length-map}
 use Rattle.acceptance.specs.Lasso.{Aut}
@@ -15,14 +15,37 @@ use Rattle.periods.proofs.Packed.{period-parents}
 use Rattle.rounds.specs.declared.Rounds.{Rounds}
 use Rattle.rounds.specs.declared.Rounds.the-variants.{Found}
 use Rattle.search.specs.declared.Ending.{Ending}
-use Rattle.walk.specs.Walk.{shown, Search, passed, rejected, searchRound, rounds, pairsOf, accepts}
+use Rattle.search.specs.declared.Counts.{Counts}
+use Rattle.walk.specs.Walk.{shown, Finish, Search, passed, rejected, searchRound, rounds, pairsOf, accepts, run}
 use Rattle.walk.specs.Words.{topOf, parentOf, stemWord, periodWord}
 use Rattle.spelling.specs.Chains.{Backward}
 use Rattle.rounds.specs.Course.{Course, through, lacking, found, along, judged, roundOf, course, finishOf, roundsOf, Answers}
-use Rattle.search.specs.Contract.{Grown, finish, countsIn, countsBy, verdictBy, Legible, Showable, Shows}
+use Rattle.search.specs.Contract.{countsBy, verdictBy, Legible, Showable, Shows}
 use Rattle.walk.proofs.Runs.{Searched, one-fails, searched}
 use Rattle.walk.proofs.Cut.{periods}
 use Rattle.rounds.proofs.Course.{run-course}
+
+-- ---- both stem tables are there
+
+pub record Grown (P : ℕ) (u w links contexts stem period : List ℕ) : Type 0 where
+  pub some : 1 ≤ P
+  pub short : P ≤ 65535
+  pub u-few : length u ≤ 4096
+  pub w-few : length w ≤ 4096
+  pub u-back : Backward false u
+  pub links-fit : P ≤ length links
+  pub contexts-fit : 2 * P ≤ length contexts
+  pub stem-fits : length u ≤ length stem
+  pub period-fits : P ≤ length period
+
+-- the finish of their rounds, and the counts with it
+abbrev pub finish : (A B : Aut) (P : ℕ) (u w : List ℕ) → Finish
+finish A B P u w = run A B u P (rounds A B w) 0 0
+
+abbrev pub countsIn : (u w : ℕ) → Finish → Counts
+countsIn u w f = record { u = u; w = w; p = f .periods; t = f .tests }
+
+-- ---- the lasso that is found
 
 found-is : (c : Course) {p t i j n : ℕ} → Found p t i j n ≡ roundsOf c → (v : List Period) × (c ≡ found v i j p t) × (length v ≡ n)
 found-is (through p t) e = let z : _≡_ {A = ℕ} 0 1 = cc in absurd (omega arith)

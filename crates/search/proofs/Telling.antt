@@ -27,7 +27,8 @@ use Rattle.walk.specs.Words.{stemWord, periodWord}
 use Rattle.walk.specs.Walk.{shown, rounds, walk}
 use Rattle.search.specs.Ending.{endingBy, stemShown, periodShown, Buffers}
 use Rattle.spelling.specs.Chains.{Backward, Written}
-use Rattle.search.specs.Contract.{Prepared, Told, Grown, finish, countsIn, Legible, Shows}
+use Rattle.search.specs.Contract.{Prepared, Told, Legible, Shows}
+use Rattle.search.proofs.Shown.{Grown, finish, countsIn}
 use Rattle.walk.proofs.Runs.{u-full, w-full, ran, runs, walk-is}
 use Rattle.walk.proofs.Cut.{stems}
 

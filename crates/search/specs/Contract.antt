@@ -13,7 +13,7 @@ use Rattle.search.specs.declared.Ending.{Ending}
 use Rattle.rounds.specs.declared.Rounds.{Rounds}
 use Rattle.rounds.specs.declared.Rounds.the-variants.{Through, Lacking, Found}
 use Rattle.walk.specs.Words.{stemWord, periodWord}
-use Rattle.walk.specs.Walk.{Verdict, included, shown, periodsFull, Finish, Walked, rounds, run}
+use Rattle.walk.specs.Walk.{Verdict, included, shown, periodsFull, Walked}
 use Rattle.search.specs.Ending.{endingBy, endingOf, stemShown, periodShown, Buffers, leftBy}
 use Rattle.spelling.specs.Chains.{Backward}
 
@@ -49,26 +49,6 @@ pub record Told (r : Walked) (old new : Buffers) (e : Ending) : Type 0 where
   pub largest-left : new .largest ≡ over (r .largest) (old .largest)
   pub stem-left : new .stem ≡ over (stemShown (r .finish .verdict)) (old .stem)
   pub period-left : new .period ≡ over (periodShown (r .finish .verdict)) (old .period)
-
--- ---- both stem tables are there
-
-pub record Grown (P : ℕ) (u w links contexts stem period : List ℕ) : Type 0 where
-  pub some : 1 ≤ P
-  pub short : P ≤ 65535
-  pub u-few : length u ≤ 4096
-  pub w-few : length w ≤ 4096
-  pub u-back : Backward false u
-  pub links-fit : P ≤ length links
-  pub contexts-fit : 2 * P ≤ length contexts
-  pub stem-fits : length u ≤ length stem
-  pub period-fits : P ≤ length period
-
--- the finish of their rounds, and the counts with it
-abbrev pub finish : (A B : Aut) (P : ℕ) (u w : List ℕ) → Finish
-finish A B P u w = run A B u P (rounds A B w) 0 0
-
-abbrev pub countsIn : (u w : ℕ) → Finish → Counts
-countsIn u w f = record { u = u; w = w; p = f .periods; t = f .tests }
 
 -- ---- the words of a rejected lasso
 

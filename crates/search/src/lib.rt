@@ -1,11 +1,10 @@
 //! The walk on loaded automata and lent tables.
 ghost use mathlib.Core.Path.{_≡_};
-ghost use Prim.Native.Nat.{_*_, _≤_};
 ghost use lib.ListN.{length, replicate};
 ghost use Rattle.automata.specs.Loaded.{cell, autOf};
 ghost use Rattle.walk.specs.Walk.{walk};
 ghost use Rattle.search.specs.declared.Ending.the-variants.{StemsFull};
-ghost use Rattle.search.specs.Contract.{Prepared, Concluded, Told, Grown, finish, countsIn, countsBy, verdictBy, Showable, Shows};
+ghost use Rattle.search.specs.Contract.{Prepared, Concluded, Told, countsBy, verdictBy, Showable, Shows};
 use automata::Head;
 use growth::Growth;
 use rounds::Rounds;
@@ -67,39 +66,6 @@ fn show(
     }
 }
 
-// The rounds with both stem tables there, and the words of the lasso that they may find.
-fn conclude(
-    stems: &[u32],
-    largest: &[u32],
-    links: &mut [u32],
-    contexts: &mut [u64],
-    stem: &mut [u8],
-    period: &mut [u8],
-    room: usize,
-    model: &[[u16; 16]; 16],
-    model_head: Head,
-    rule: &[[u8; 8]; 16],
-    rule_head: Head,
-) -> Ending
-    requires { ⌜ Grown room (now stems) (now largest) (now links) (now contexts) (now stem) (now period) ⌝ }
-    ensures { λ r. ⌜ Shows (countsIn (length (now (stems .entry))) (length (now (largest .entry))) (finish (autOf (cell (now (model .entry))) «model_head») (autOf (cell (now (rule .entry))) «rule_head») room (now (stems .entry)) (now (largest .entry))))
-        (finish (autOf (cell (now (model .entry))) «model_head») (autOf (cell (now (rule .entry))) «rule_head») room (now (stems .entry)) (now (largest .entry)) .verdict)
-        (now (stem .entry)) (now (stem .exit)) (now (period .entry)) (now (period .exit)) r ⌝ }
-{
-    let found = rounds::all(
-        stems,
-        largest,
-        links,
-        contexts,
-        room,
-        model,
-        model_head,
-        rule,
-        rule_head,
-    );
-    show(found, stems, largest.len(), links, stem, period)
-}
-
 // The ending where a stem table lacks room: no round was begun.
 fn stems_full(table: u8, u: usize, w: usize) -> Ending
     ensures { λ r. ⌜ r ≡ StemsFull table (record { u = u; w = w; p = 0; t = 0 }) ⌝ }
@@ -107,7 +73,7 @@ fn stems_full(table: u8, u: usize, w: usize) -> Ending
     Ending::StemsFull(table, Counts { u, w, p: 0, t: 0 })
 }
 
-// Both stem tables, and what follows from them. The links and the contexts are left as the last period table has them.
+// Both stem tables, the rounds, and the words of the lasso that they may find. The links and the contexts are left as the last period table has them.
 fn tell(
     model: &[[u16; 16]; 16],
     model_head: Head,
@@ -145,19 +111,20 @@ fn tell(
     let Growth::Ended(w) = second else {
         return stems_full(1, u, stem_room);
     };
-    conclude(
-        &smallest[0..u],
-        &largest[0..w],
+    let u_table = &smallest[0..u];
+    let w_table = &largest[0..w];
+    let found = rounds::all(
+        u_table,
+        w_table,
         links,
         contexts,
-        stem,
-        period,
         period_room,
         model,
         model_head,
         rule,
         rule_head,
-    )
+    );
+    show(found, u_table, w_table.len(), links, stem, period)
 }
 
 // Zeroes for links.

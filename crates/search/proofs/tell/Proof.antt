@@ -1,5 +1,6 @@
 -- `tell` meets its contract. Assumes nothing.
 use Rattle.search.proofs.Telling.{stems-fit, grown, told-u, told-w, told-rounds}
+use Rattle.search.proofs.Shown.{showable, rounds-show}
 use Rattle.automata.specs.Loaded.{cell, autOf}
 use mathlib.Core.Bool.{true, false}
 use borrow.Author.Needs.{needs}
@@ -59,38 +60,47 @@ returns-2 c =
     let args = start .args in
     rw (c .stems-full2 .ensures) (told-w (autOf (cell (args .model .now)) (args .model-head)) (autOf (cell (args .rule .now)) (args .rule-head)) (args .stem-room) (args .period-room) (c .before .before .before .before .before .before .before .before .before .before .before .before .grow .ensures) (c .before .before .before .before .before .before .before .before .first .given .1) (c .before .before .before .before .before .grow2 .ensures) (c .before .enum-told2 .given .1))
 
-sub-conclude : tie.Need-sub-conclude
-sub-conclude c = search needs
+sub-u-table : tie.Need-sub-u-table
+sub-u-table c = search needs
 
-part-conclude-start : tie.Need-part-conclude-start
-part-conclude-start c = search needs
+part-u-table-start : tie.Need-part-u-table-start
+part-u-table-start c = search needs
 
-part-conclude-end : tie.Need-part-conclude-end
-part-conclude-end c =
+part-u-table-end : tie.Need-part-u-table-end
+part-u-table-end c =
     let start = c .before .before .before .before .before .before .before .before .before .before .before .before .before .before .before .before .before .before .before .before .before in
     let args = start .args in
     stems-fit (autOf (cell (args .model .now)) (args .model-head)) (autOf (cell (args .rule .now)) (args .rule-head)) (args .stem-room) false (c .before .before .before .before .before .before .before .before .before .before .before .before .before .grow .ensures) (c .before .before .before .before .before .before .before .before .before .first .given .1) (start .pre .smallest-fits)
 
-sub-conclude-2 : tie.Need-sub-conclude-2
-sub-conclude-2 c = search needs
+sub-w-table : tie.Need-sub-w-table
+sub-w-table c = search needs
 
-part-conclude-start-2 : tie.Need-part-conclude-start-2
-part-conclude-start-2 c = search needs
+part-w-table-start : tie.Need-part-w-table-start
+part-w-table-start c = search needs
 
-part-conclude-end-2 : tie.Need-part-conclude-end-2
-part-conclude-end-2 c =
+part-w-table-end : tie.Need-part-w-table-end
+part-w-table-end c =
     let start = c .before .before .before .before .before .before .before .before .before .before .before .before .before .before .before .before .before .before .before .before .before .before .before in
     let args = start .args in
     stems-fit (autOf (cell (args .model .now)) (args .model-head)) (autOf (cell (args .rule .now)) (args .rule-head)) (args .stem-room) true (c .before .before .before .before .before .before .before .before .grow2 .ensures) (c .before .before .before .before .second .given .1) (start .pre .largest-fits)
 
-conclude-requires : tie.Need-conclude-requires
-conclude-requires c κs =
-    let start = c .before .before .before .before .before .before .before .before .before .before .before .before .before .before .before .before .before .before .before .before .before .before .before .before .before .before .before .before in
+all-requires : tie.Need-all-requires
+all-requires c κs =
+    let start = c .before .before .before .before .before .before .before .before .before .before .before .before .before .before .before .before .before .before .before .before .before .before .before .before .before .before in
     let args = start .args in
-    grown (autOf (cell (args .model .now)) (args .model-head)) (autOf (cell (args .rule .now)) (args .rule-head)) (args .stem-room) (args .period-room) (start .pre) (c .before .before .before .before .before .before .before .before .before .before .before .before .before .before .before .before .before .before .before .before .grow .ensures) (c .before .before .before .before .before .before .before .before .before .before .before .before .before .grow2 .ensures) (c .before .before .before .before .before .before .before .before .before .before .before .before .before .before .before .before .first .given .1) (c .before .before .before .before .before .before .before .before .before .second .given .1)
+    let g = grown (autOf (cell (args .model .now)) (args .model-head)) (autOf (cell (args .rule .now)) (args .rule-head)) (args .stem-room) (args .period-room) (start .pre) (c .before .before .before .before .before .before .before .before .before .before .before .before .before .before .before .before .before .before .grow .ensures) (c .before .before .before .before .before .before .before .before .before .before .before .grow2 .ensures) (c .before .before .before .before .before .before .before .before .before .before .before .before .before .before .first .given .1) (c .before .before .before .before .before .before .before .second .given .1) in
+    ((g .u-few, g .w-few), (g .some, g .short, g .links-fit, g .contexts-fit))
+
+show-requires : tie.Need-show-requires
+show-requires c κs =
+    let start = c .before .before .before .before .before .before .before .before .before .before .before .before .before .before .before .before .before .before .before .before .before .before .before .before .before .before .before .before .before .before .before .before .before .before in
+    let args = start .args in
+    showable (autOf (cell (args .model .now)) (args .model-head)) (autOf (cell (args .rule .now)) (args .rule-head)) _ (args .period-room) _ 0 0
+    (grown (autOf (cell (args .model .now)) (args .model-head)) (autOf (cell (args .rule .now)) (args .rule-head)) (args .stem-room) (args .period-room) (start .pre) (c .before .before .before .before .before .before .before .before .before .before .before .before .before .before .before .before .before .before .before .before .before .before .before .before .before .before .grow .ensures) (c .before .before .before .before .before .before .before .before .before .before .before .before .before .before .before .before .before .before .before .grow2 .ensures) (c .before .before .before .before .before .before .before .before .before .before .before .before .before .before .before .before .before .before .before .before .before .before .first .given .1) (c .before .before .before .before .before .before .before .before .before .before .before .before .before .before .before .second .given .1))
+    (search needs) (c .before .before .before .before .before .before .before .all .ensures)
 
 same-length-4 : tie.Need-same-length-4
-same-length-4 c = search needs
+same-length-4 c = c .before .before .before .before .before .before .before .before .before .before .before .before .before .before .before .before .before .before .before .before .before .before .before .before .before .before .before .before .before .before .before .grow .kept .0
 
 same-length-5 : tie.Need-same-length-5
 same-length-5 c = search needs
@@ -109,9 +119,10 @@ same-length-9 c = search needs
 
 returns-3 : tie.Need-returns-3
 returns-3 c =
-    let start = c .before .before .before .before .before .before .before .before .before .before .before .before .before .before .before .before .before .before .before .before .before .before .before .before .before .before .before .before .before .before .before .before .before .before .before .before .before in
+    let start = c .before .before .before .before .before .before .before .before .before .before .before .before .before .before .before .before .before .before .before .before .before .before .before .before .before .before .before .before .before .before .before .before .before .before .before .before .before .before .before in
     let args = start .args in
-    told-rounds (autOf (cell (args .model .now)) (args .model-head)) (autOf (cell (args .rule .now)) (args .rule-head)) (args .stem-room) (args .period-room) (start .pre) (c .before .before .before .before .before .before .before .before .before .before .before .before .before .before .before .before .before .before .before .before .before .before .before .before .before .before .before .before .before .grow .ensures) (c .before .before .before .before .before .before .before .before .before .before .before .before .before .before .before .before .before .before .before .before .before .before .grow2 .ensures) (c .before .before .before .before .before .before .before .before .before .before .before .before .before .before .before .before .before .before .before .before .before .before .before .before .before .first .given .1) (c .before .before .before .before .before .before .before .before .before .before .before .before .before .before .before .before .before .before .second .given .1) (c .before .before .before .before .before .before .before .before .conclude .ensures)
+    told-rounds (autOf (cell (args .model .now)) (args .model-head)) (autOf (cell (args .rule .now)) (args .rule-head)) (args .stem-room) (args .period-room) (start .pre) (c .before .before .before .before .before .before .before .before .before .before .before .before .before .before .before .before .before .before .before .before .before .before .before .before .before .before .before .before .before .before .before .grow .ensures) (c .before .before .before .before .before .before .before .before .before .before .before .before .before .before .before .before .before .before .before .before .before .before .before .before .grow2 .ensures) (c .before .before .before .before .before .before .before .before .before .before .before .before .before .before .before .before .before .before .before .before .before .before .before .before .before .before .before .first .given .1) (c .before .before .before .before .before .before .before .before .before .before .before .before .before .before .before .before .before .before .before .before .second .given .1)
+    (rounds-show (autOf (cell (args .model .now)) (args .model-head)) (autOf (cell (args .rule .now)) (args .rule-head)) _ _ (args .period-room) (c .before .before .before .before .before .before .before .before .before .before .before .before .all .ensures) (c .before .before .before .before .show .ensures))
 
 pub tell-spec : {M : Type 1} → statement M
 tell-spec =
@@ -130,13 +141,14 @@ tell-spec =
     same-length-2
     same-length-3
     returns-2
-    sub-conclude
-    part-conclude-start
-    part-conclude-end
-    sub-conclude-2
-    part-conclude-start-2
-    part-conclude-end-2
-    conclude-requires
+    sub-u-table
+    part-u-table-start
+    part-u-table-end
+    sub-w-table
+    part-w-table-start
+    part-w-table-end
+    all-requires
+    show-requires
     same-length-4
     same-length-5
     same-length-6
