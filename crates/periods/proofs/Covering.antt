@@ -14,7 +14,8 @@ use Rattle.periods.specs.Masks.{lacking, having, apart, holds, covers}
 use Rattle.periods.specs.Chained.{entryAt, Chained, toFront}
 use Rattle.periods.proofs.Lent.{held-length, held-at}
 use Rattle.periods.proofs.Masks.{covers-trans, covers-apart, covers-holds}
-use Rattle.periods.proofs.Scanning.{Scanning, following, scan-start, scan-end, scan-hit, scan-pass, scan-drop, pass-less, drop-less, place-low, entry-low, entry-state}
+use Rattle.periods.proofs.Trail.{following}
+use Rattle.periods.proofs.Scanning.{Scanning, scan-start, scan-end, scan-hit, scan-pass, scan-drop, pass-less, drop-less, place-low, entry-low, entry-state}
 
 module _ (rows n link : ℕ) (links contexts : List ℕ) where
   abbrev table : List Period

@@ -4,7 +4,7 @@ use native.Mathlib.Omega.{arith}
 use lib.ListN.{length}
 use Rattle.automata.specs.Loaded.{ofPairs}
 use Rattle.periods.specs.Lent.{held}
-use Rattle.periods.proofs.Scanning.{following}
+use Rattle.periods.proofs.Trail.{following}
 use Rattle.periods.proofs.Covering.{Masked, masked-start, masked-end, masked-place, masked-next, next-low, masked-hit, masked-on}
 use borrow.Author.Needs.{needs}
 use Rattle.periods.proofs.scan.covered.Statement.{statement}
