@@ -14,7 +14,8 @@ use Rattle.periods.specs.Masks.{lacking, having, apart, holds, covers}
 use Rattle.periods.specs.Chained.{entryAt, Chained, toFront}
 use Rattle.periods.proofs.Lent.{held-length, held-at}
 use Rattle.periods.proofs.Masks.{covers-trans, covers-apart, covers-holds}
-use Rattle.periods.proofs.Scanning.{Scanning, following, scan-start, scan-end, scan-hit, scan-pass, scan-drop, pass-less, drop-less, place-low, entry-low, entry-state}
+use Rattle.periods.proofs.Trail.{following}
+use Rattle.periods.proofs.Scanning.{Scanning, scan-start, scan-end, scan-hit, scan-pass, scan-drop, pass-less, drop-less, place-low, entry-low, entry-state}
 
 module _ (rows n link : ℕ) (links contexts : List ℕ) where
   abbrev table : List Period
@@ -102,7 +103,3 @@ module _ (rows n link : ℕ) (links contexts : List ℕ) where
               at true h =
                   (scan-drop (covers rows) table (candidate c) low s some missed long-enough (under h), drop-less (covers rows) table (candidate c) low s some missed long-enough (under h))
               at false h = (scan-pass (covers rows) table (candidate c) low s some missed, pass-less (covers rows) table (candidate c) low s some missed)
-
-          pub masked-on-place : {place′ : ℕ} {chains′ : List ℕ} → place′ ≡ cond (holds (contextIn contexts (next - 1)) has) place (next + 15)
-              → chains′ ≡ cond (holds (contextIn contexts (next - 1)) has) (set chains place (getD chains (next + 15) 0)) chains → place′ < 16 + n
-          masked-on-place p e = omega (arith, place-low (covers rows) table (candidate c) low (masked-on p e .0), held-length links contexts n)

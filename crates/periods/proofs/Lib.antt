@@ -5,6 +5,8 @@ pub mod Lent
 pub mod Masks
 pub mod Runs
 pub mod Chain
+pub mod Trail
+pub mod Between
 pub mod Scanning
 pub mod Covering
 pub mod Appended

@@ -71,6 +71,7 @@ fn to_front(chains: &mut [u16], state: usize, place: usize)
 // The place after the entry that the place leads to; or the same place, where that entry leaves the chain, since it has all that the candidate has.
 fn pass(contexts: &[u64], chains: &mut [u16], place: usize, next: usize, having: Pairs8) -> usize
     requires { ⌜ (1 ≤ next) × (next ≤ 65535) × (2 * next ≤ length (now contexts)) × (place < length (now chains)) × (next + 15 < length (now chains)) ⌝ }
+    ensures { λ r. ⌜ r < length (now (chains .entry)) ⌝ }
     ensures { λ r. ⌜ r ≡ cond (holds (contextIn (now (contexts .entry)) (next - 1)) (ofPairs having)) place (next + 15) ⌝ }
     ensures { λ r. ⌜ now (chains .exit) ≡ cond (holds (contextIn (now (contexts .entry)) (next - 1)) (ofPairs having))
         (set (now (chains .entry)) place (getD (now (chains .entry)) (next + 15) 0)) (now (chains .entry)) ⌝ }

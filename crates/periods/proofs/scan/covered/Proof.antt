@@ -4,8 +4,8 @@ use native.Mathlib.Omega.{arith}
 use lib.ListN.{length}
 use Rattle.automata.specs.Loaded.{ofPairs}
 use Rattle.periods.specs.Lent.{held}
-use Rattle.periods.proofs.Scanning.{following}
-use Rattle.periods.proofs.Covering.{Masked, masked-start, masked-end, masked-place, masked-next, next-low, masked-hit, masked-on, masked-on-place}
+use Rattle.periods.proofs.Trail.{following}
+use Rattle.periods.proofs.Covering.{Masked, masked-start, masked-end, masked-place, masked-next, next-low, masked-hit, masked-on}
 use borrow.Author.Needs.{needs}
 use Rattle.periods.proofs.scan.covered.Statement.{statement}
 use Rattle.periods.proofs.scan.covered.Tie as tie
@@ -68,21 +68,21 @@ pass-requires c κs =
     (omega arith, omega (arith, next, c .before .before .before .before .before .before .before .before .before .before .before .before .pre .0), omega (arith, next, c .before .before .before .before .before .before .before .before .before .before .before .before .pre .0), omega (arith, place, c .before .before .before .before .before .before .before .before .before .before .before .before .pre .0, c .before .before .before .before .loop .inv .0), omega (arith, next, c .before .before .before .before .before .before .before .before .before .before .before .before .pre .0, c .before .before .before .before .loop .inv .0))
 
 mul-next-2 : tie.Need-mul-next-2 Inv-loop μ-loop
-mul-next-2 c = omega (arith, masked-on-place _ _ _ _ _ _ (c .before .before .before .before .before .before .before .before .before .before .before .lacking .ensures) (c .before .before .before .before .before .before .before .before .before .before .having .ensures) (c .before .before .before .before .before .before .before .loop .inv .1) (omega arith) (omega (arith, c .before .before .before .before .before .before .before .before .before .before .before .before .before .before .before .pre .0, c .before .before .before .before .before .before .before .loop .inv .0)) (sym (c .before .before .before .before .before .apart .ensures) ∙ c .before .before .before .before .if1 .left) (λ i. omega (arith, c .before .before .before .before .before .before .before .before .before .before .before .before .before .shared-slice-known2 .given i)) (c .before .before .pass .ensures .0) (c .before .before .pass .ensures .1), c .before .before .before .before .before .before .before .before .before .before .before .before .before .before .before .pre .0)
+mul-next-2 c = search needs
 
 slice-read-next-2 : tie.Need-slice-read-next-2 Inv-loop μ-loop
-slice-read-next-2 c = omega (arith, masked-on-place _ _ _ _ _ _ (c .before .before .before .before .before .before .before .before .before .before .before .before .lacking .ensures) (c .before .before .before .before .before .before .before .before .before .before .before .having .ensures) (c .before .before .before .before .before .before .before .before .loop .inv .1) (omega arith) (omega (arith, c .before .before .before .before .before .before .before .before .before .before .before .before .before .before .before .before .pre .0, c .before .before .before .before .before .before .before .before .loop .inv .0)) (sym (c .before .before .before .before .before .before .apart .ensures) ∙ c .before .before .before .before .before .if1 .left) (λ i. omega (arith, c .before .before .before .before .before .before .before .before .before .before .before .before .before .before .shared-slice-known2 .given i)) (c .before .before .before .pass .ensures .0) (c .before .before .before .pass .ensures .1), c .before .before .before .before .before .before .before .before .before .before .before .before .before .before .before .before .pre .0, c .before .before .before .before .before .before .before .before .loop .inv .0)
+slice-read-next-2 c = search needs
 
 cast-next-2 : tie.Need-cast-next-2 Inv-loop μ-loop
 cast-next-2 c = omega (arith, c .slice-known5 .given (c .before .before .before .pass .result))
 
 loop-less : tie.Need-loop-less Inv-loop μ-loop
-loop-less c = masked-on _ _ _ _ _ _ (c .before .before .before .before .before .before .before .before .before .before .before .before .lacking .ensures) (c .before .before .before .before .before .before .before .before .before .before .before .having .ensures) (c .before .before .before .before .before .before .before .before .loop .inv .1) (omega arith) (omega (arith, c .before .before .before .before .before .before .before .before .before .before .before .before .before .before .before .before .pre .0, c .before .before .before .before .before .before .before .before .loop .inv .0)) (sym (c .before .before .before .before .before .before .apart .ensures) ∙ c .before .before .before .before .before .if1 .left) (λ i. omega (arith, c .before .before .before .before .before .before .before .before .before .before .before .before .before .before .shared-slice-known2 .given i)) (c .before .before .before .pass .ensures .0) (c .before .before .before .pass .ensures .1) .1
+loop-less c = masked-on _ _ _ _ _ _ (c .before .before .before .before .before .before .before .before .before .before .before .before .lacking .ensures) (c .before .before .before .before .before .before .before .before .before .before .before .having .ensures) (c .before .before .before .before .before .before .before .before .loop .inv .1) (omega arith) (omega (arith, c .before .before .before .before .before .before .before .before .before .before .before .before .before .before .before .before .pre .0, c .before .before .before .before .before .before .before .before .loop .inv .0)) (sym (c .before .before .before .before .before .before .apart .ensures) ∙ c .before .before .before .before .before .if1 .left) (λ i. omega (arith, c .before .before .before .before .before .before .before .before .before .before .before .before .before .before .shared-slice-known2 .given i)) (c .before .before .before .pass .ensures .1 .0) (c .before .before .before .pass .ensures .1 .1) .1
 
 loop-again : tie.Need-loop-again Inv-loop μ-loop
 loop-again c = (
   search needs,
-  record { for = λ d l k. masked-on _ _ _ _ _ d l k (c .before .before .before .before .before .before .before .before .loop .inv .1) (omega arith) (omega (arith, c .before .before .before .before .before .before .before .before .before .before .before .before .before .before .before .before .pre .0, c .before .before .before .before .before .before .before .before .loop .inv .0)) (sym (c .before .before .before .before .before .before .apart .ensures) ∙ c .before .before .before .before .before .if1 .left) (λ i. omega (arith, c .before .before .before .before .before .before .before .before .before .before .before .before .before .before .shared-slice-known2 .given i)) (c .before .before .before .pass .ensures .0) (c .before .before .before .pass .ensures .1) .0 },
+  record { for = λ d l k. masked-on _ _ _ _ _ d l k (c .before .before .before .before .before .before .before .before .loop .inv .1) (omega arith) (omega (arith, c .before .before .before .before .before .before .before .before .before .before .before .before .before .before .before .before .pre .0, c .before .before .before .before .before .before .before .before .loop .inv .0)) (sym (c .before .before .before .before .before .before .apart .ensures) ∙ c .before .before .before .before .before .if1 .left) (λ i. omega (arith, c .before .before .before .before .before .before .before .before .before .before .before .before .before .before .shared-slice-known2 .given i)) (c .before .before .before .pass .ensures .1 .0) (c .before .before .before .pass .ensures .1 .1) .0 },
 )
 
 same-length-2 : tie.Need-same-length-2 Inv-loop μ-loop

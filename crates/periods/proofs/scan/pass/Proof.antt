@@ -36,13 +36,13 @@ same-length : tie.Need-same-length
 same-length c = search needs
 
 returns : tie.Need-returns
-returns c = let is = sym (c .before .before .holds .ensures) ∙ c .before .if1 .taken in (chosen _ _ is, chosen _ _ is)
+returns c = let is = sym (c .before .before .holds .ensures) ∙ c .before .if1 .taken in (search needs, (chosen _ _ is, chosen _ _ is))
 
 add-result : tie.Need-add-result
 add-result c = search needs
 
 returns-2 : tie.Need-returns-2
-returns-2 c = let is = sym (c .before .holds .ensures) ∙ c .if1 .left in (other _ _ is, other _ _ is)
+returns-2 c = let is = sym (c .before .holds .ensures) ∙ c .if1 .left in (search needs, (other _ _ is, other _ _ is))
 
 pub pass-spec : {M : Type 1} → statement M
 pass-spec =

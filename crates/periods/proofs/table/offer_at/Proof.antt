@@ -1,5 +1,5 @@
 -- `table::offer_at` meets its contract: q is no successor, the candidate is covered and nothing changes, or it is appended. Assumes nothing.
-use mathlib.Core.Path.{sym, _∙_}
+use mathlib.Core.Path.{refl, sym, _∙_}
 use borrow.Author.Tests.{not-true, not-false}
 use Rattle.periods.proofs.Masks.{covers-state}
 use Rattle.periods.proofs.Offered.{offered-covered, offered-new, offered-some, offered-none}
@@ -20,13 +20,13 @@ covered-requires : tie.Need-covered-requires
 covered-requires c κs = search needs
 
 same-length : tie.Need-same-length
-same-length c = search needs
+same-length c = refl
 
 same-length-2 : tie.Need-same-length-2
-same-length-2 c = search needs
+same-length-2 c = refl
 
 same-length-3 : tie.Need-same-length-3
-same-length-3 c = search needs
+same-length-3 c = c .before .before .before .covered .kept .1 .1 .0
 
 returns-2 : tie.Need-returns-2
 returns-2 c =
@@ -37,13 +37,13 @@ append-requires : tie.Need-append-requires
 append-requires c κs = search needs
 
 same-length-4 : tie.Need-same-length-4
-same-length-4 c = search needs
+same-length-4 c = c .before .before .before .before .before .before .append .kept .0
 
 same-length-5 : tie.Need-same-length-5
-same-length-5 c = search needs
+same-length-5 c = c .before .before .before .before .before .before .append .kept .1 .0
 
 same-length-6 : tie.Need-same-length-6
-same-length-6 c = search needs
+same-length-6 c = c .before .before .before .before .before .before .append .kept .1 .1 .0 ∙ c .before .before .before .before .before .before .before .before .before .before .before .before .before .covered .kept .1 .1 .0
 
 returns-3 : tie.Need-returns-3
 returns-3 c =
