@@ -14,8 +14,8 @@ use Rattle.records.specs.Spelled.{isRecord, among, started, startIn, named, sta
 use Rattle.records.specs.Faults.{again, fault, firstFault, goodRecords, headOf, judged}
 use Rattle.membership.specs.Test.{goodLetters, verdict, testedOn, tested}
 use Rattle.stems.specs.Stems.{targetCovers, stemCovers, stemRoot, stemNext, stemTable}
-use Rattle.periods.specs.Periods.{periodCovers, periodFirst, periodNext, periodTable}
-use Rattle.periods.specs.Lent.{contextsOf}
+use Rattle.covering.specs.Entries.{periodCovers, contextsOf}
+use Rattle.periods.specs.Periods.{periodFirst, periodNext, periodTable}
 use Rattle.walk.specs.Words.{chain}
 use Rattle.walk.specs.Walk.{search, opening, rounds, fits, pairsOf, accepts, run, walk}
 use Rattle.search.specs.Ending.{endingBy, stemShown, periodShown, leftBy}

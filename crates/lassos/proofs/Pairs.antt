@@ -14,7 +14,7 @@ use borrow.Author.Tests.{eq-eqb}
 use Rattle.bits.specs.Fields.{linkState}
 use Rattle.growth.specs.Steps.{gather, only, steps}
 use Rattle.automata.specs.Repeated.{repeated}
-use Rattle.periods.specs.Lent.{contextIn}
+use Rattle.covering.specs.Entries.{contextIn}
 use Rattle.lassos.specs.declared.Found.the-variants.{Passed, Rejected}
 use Rattle.walk.specs.Walk.{passed, rejected, search, fits, pairsOf}
 use Rattle.lassos.specs.Pairs.{foundOf, meeting, Accepting, Few}

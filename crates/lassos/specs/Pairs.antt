@@ -9,7 +9,7 @@ use lib.ListN.{length, getD}
 use Rattle.bits.specs.Sets.{meets}
 use Rattle.bits.specs.Fields.{stemTarget, linkState}
 use Rattle.automata.specs.Repeated.{repeated}
-use Rattle.periods.specs.Lent.{contextIn}
+use Rattle.covering.specs.Entries.{contextIn}
 use Rattle.lassos.specs.declared.Found.{Found}
 use Rattle.lassos.specs.declared.Found.the-variants.{Passed, Rejected}
 use Rattle.walk.specs.Walk.{Search, passed, rejected}

@@ -15,12 +15,12 @@ use Rattle.growth.specs.Lent.{growthOf, over}
 use Rattle.growth.specs.declared.Growth.the-variants.{Ended, Full}
 use Rattle.growth.proofs.Grown.{append-room, append-full}
 use Rattle.growth.proofs.Offering.{over-self, over-set, set-over}
-use Rattle.periods.specs.Periods.{Period}
-use Rattle.periods.specs.Lent.{linksOf, contextsOf, held, Leaves}
-use Rattle.periods.specs.Chained.{Chained, Cleared}
+use Rattle.covering.specs.Entries.{Period, linksOf, contextsOf, held}
+use Rattle.periods.specs.Lent.{Leaves}
+use Rattle.covering.specs.Chained.{Chained, Cleared}
 use Rattle.periods.specs.Growing.{Roomy, Ready, Grows, Appends}
-use Rattle.periods.proofs.Lent.{contexts-append, held-length, links-held, contexts-held}
-use Rattle.periods.proofs.Chain.{chained-none}
+use Rattle.covering.proofs.Entries.{contexts-append, held-length, links-held, contexts-held}
+use Rattle.covering.proofs.Chain.{chained-none}
 
 -- lacking room is not having ended
 pub never : {m : ℕ} → Full ≡ Ended m → ⊥

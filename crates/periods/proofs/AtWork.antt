@@ -13,7 +13,8 @@ use Rattle.acceptance.specs.Contexts.{movedBy, passesBy, throughBy, idle, longe
 use Rattle.growth.specs.Grow.{entries, append, offer, grow, table}
 use Rattle.growth.specs.Steps.{gather, steps}
 use Rattle.growth.specs.Tables.{contained}
-use Rattle.periods.specs.Periods.{Period, periodCovers, periodFirst, periodNext, periodTable}
+use Rattle.covering.specs.Entries.{Period, periodCovers}
+use Rattle.periods.specs.Periods.{periodFirst, periodNext, periodTable}
 
 -- letter 0 leads to state 0, letter 1 from state 0 to state 1
 abbrev model : Aut

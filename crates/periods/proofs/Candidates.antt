@@ -21,10 +21,11 @@ use Rattle.growth.proofs.Carried.{mapped, table-map}
 use Rattle.automata.specs.declared.Head.{Head}
 use Rattle.automata.specs.declared.Pairs8.{Pairs8}
 use Rattle.automata.specs.Loaded.{cell, autOf, ofPairs}
-use Rattle.periods.specs.Periods.{Period, periodCovers, periodFirst, periodNext, periodTable}
-use Rattle.periods.specs.Masks.{covers}
+use Rattle.covering.specs.Entries.{Period, periodCovers}
+use Rattle.periods.specs.Periods.{periodFirst, periodNext, periodTable}
+use Rattle.covering.specs.Masks.{covers}
 use Rattle.periods.specs.Candidates.{atState, atLetter, candidates, ofEntry}
-use Rattle.periods.proofs.Masks.{covers-contained}
+use Rattle.covering.proofs.Masks.{covers-contained}
 
 -- ---- letter by letter
 

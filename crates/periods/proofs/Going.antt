@@ -10,11 +10,11 @@ use Rattle.growth.specs.declared.Growth.the-variants.{Ended, Full}
 use Rattle.growth.specs.Grow.{Outcome, ended, onward, entries, offer}
 use Rattle.growth.specs.Lent.{over}
 use Rattle.growth.proofs.Offering.{ended-is, full-is, offer-longer, offer-within, over-over}
-use Rattle.periods.specs.Periods.{Period}
-use Rattle.periods.specs.Lent.{linksOf, contextsOf, held, Leaves}
-use Rattle.periods.specs.Chained.{Chained}
+use Rattle.covering.specs.Entries.{Period, linksOf, contextsOf, held}
+use Rattle.periods.specs.Lent.{Leaves}
+use Rattle.covering.specs.Chained.{Chained}
 use Rattle.periods.specs.Growing.{Ready, Grows}
-use Rattle.periods.proofs.Lent.{contexts-length, held-length, held-over}
+use Rattle.covering.proofs.Entries.{contexts-length, held-length, held-over}
 use Rattle.periods.proofs.Appended.{unchanged}
 
 -- the tables hold n entries over what came, and `rest` of these is the outcome o

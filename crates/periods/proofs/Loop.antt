@@ -11,8 +11,7 @@ use Rattle.growth.specs.declared.Growth.the-variants.{Ended, Full}
 use Rattle.growth.specs.Grow.{Outcome, offer}
 use Rattle.growth.specs.Steps.{gather}
 use Rattle.growth.proofs.Offering.{offer-none, gather-on, gather-done}
-use Rattle.periods.specs.Periods.{Period}
-use Rattle.periods.specs.Lent.{held}
+use Rattle.covering.specs.Entries.{Period, held}
 use Rattle.periods.specs.Growing.{Ready, Grows}
 use Rattle.periods.proofs.Going.{Going, going, going-end, going-full, going-on}
 

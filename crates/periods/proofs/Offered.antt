@@ -17,14 +17,13 @@ use Rattle.growth.specs.Steps.{only}
 use Rattle.automata.specs.Loaded.{ofPairs}
 use Rattle.growth.proofs.Grown.{append-room, append-full}
 use Rattle.growth.proofs.Offering.{offer-none, offer-covered}
-use Rattle.periods.specs.Periods.{Period}
-use Rattle.periods.specs.Lent.{held}
-use Rattle.periods.specs.Chained.{Chained}
+use Rattle.covering.specs.Entries.{Period, held}
+use Rattle.covering.specs.Chained.{Chained}
 use Rattle.periods.specs.Growing.{Ready, Grows, Appends}
 use Rattle.periods.specs.Candidates.{atState}
 use Rattle.periods.specs.declared.table.Move.{Move}
-use Rattle.periods.proofs.Lent.{held-length}
-use Rattle.periods.proofs.Chain.{chained-append}
+use Rattle.covering.proofs.Entries.{held-length}
+use Rattle.covering.proofs.Chain.{chained-append}
 use Rattle.periods.proofs.Appended.{never, unchanged}
 
 -- a candidate that is not covered is appended

@@ -21,7 +21,8 @@ use Rattle.growth.proofs.Carried.{mapped, mapped-entries}
 use Rattle.growth.proofs.Linked.{Linked, starting, following, linked}
 use Rattle.growth.proofs.Packing.{Fits, Read, packed-table, fits-entries, complete-mapped, mapped-complete, mapped-length}
 use Rattle.growth.proofs.Periods.{periods-fit, periods-end, all-rows}
-use Rattle.periods.specs.Periods.{Period, periodCovers, periodFirst, periodNext, periodTable}
+use Rattle.covering.specs.Entries.{Period, periodCovers}
+use Rattle.periods.specs.Periods.{periodFirst, periodNext, periodTable}
 
 -- an entry without its word
 pack : ℕ → Context → ℕ → ℕ → Period

@@ -12,10 +12,9 @@ use Rattle.growth.specs.declared.Growth.the-variants.{Ended, Full}
 use Rattle.growth.specs.Grow.{Outcome, onward, entries, offer, grow, table}
 use Rattle.growth.proofs.Grown.{grow-end}
 use Rattle.growth.proofs.Offering.{grow-on}
-use Rattle.periods.specs.Periods.{Period}
-use Rattle.periods.specs.Lent.{entryIn, held}
+use Rattle.covering.specs.Entries.{Period, entryIn, held}
 use Rattle.periods.specs.Growing.{Ready, Grows}
-use Rattle.periods.proofs.Lent.{held-length, held-at}
+use Rattle.covering.proofs.Entries.{held-length, held-at}
 use Rattle.periods.proofs.Going.{Going, going, going-as, going-end, going-full, going-on}
 
 module _ (covers : Period → Period → Bool) (next : ℕ → Period → List Period) (room : ℕ) where

@@ -7,7 +7,7 @@ use Rattle.acceptance.specs.Lasso.{Aut}
 use Rattle.acceptance.specs.Contexts.{Context, longer}
 use Rattle.growth.specs.Steps.{gather, only}
 use Rattle.automata.specs.Loaded.{cell, ofPairs}
-use Rattle.periods.specs.Periods.{Period}
+use Rattle.covering.specs.Entries.{Period}
 use Rattle.periods.specs.declared.table.Move.{Move}
 
 -- the candidate at the state q, if the letter leads to q

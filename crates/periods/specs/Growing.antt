@@ -7,9 +7,9 @@ use lib.ListN.{length, getD, set}
 use Rattle.growth.specs.declared.Growth.{Growth}
 use Rattle.growth.specs.declared.Growth.the-variants.{Ended}
 use Rattle.growth.specs.Grow.{Outcome, entries}
-use Rattle.periods.specs.Periods.{Period}
-use Rattle.periods.specs.Lent.{held, Leaves}
-use Rattle.periods.specs.Chained.{Chained}
+use Rattle.covering.specs.Entries.{Period, held}
+use Rattle.periods.specs.Lent.{Leaves}
+use Rattle.covering.specs.Chained.{Chained}
 
 -- n entries are there, and the tables have room
 pub record Roomy (room n : ℕ) (links contexts chains : List ℕ) : Type 0 where

@@ -1,7 +1,5 @@
 -- The definitions that the contracts cite.
 pub mod Periods
 pub mod Lent
-pub mod Masks
-pub mod Chained
 pub mod Growing
 pub mod Candidates

@@ -1,24 +1,14 @@
 -- The period table of an accepting state s of a model A and a set of rows of a rule B, as the lent tables hold it (document 01, "The walk", 3).
 -- Assumes nothing.
-use mathlib.Core.Bool.{Bool, _&&_}
+use mathlib.Core.Bool.{_&&_}
 use mathlib.Core.List.{List}
 use Prim.Native.Nat.{ℕ}
-use lib.Dec.{eqb}
 use Rattle.bits.specs.Fields.{periodLink, linkState}
 use Rattle.acceptance.specs.Lasso.{Aut, opens}
-use Rattle.acceptance.specs.Contexts.{Context, idle, longer}
+use Rattle.acceptance.specs.Contexts.{idle, longer}
 use Rattle.growth.specs.Grow.{Outcome, table}
 use Rattle.growth.specs.Steps.{steps}
-use Rattle.growth.specs.Tables.{contained}
-
--- an entry: its link, and its context of two numbers
-pub record Period : Type 0 where
-  pub link : ℕ
-  pub context : Context
-
--- an entry covers a candidate at the same state of A if its context, on the rows, is contained in the candidate's in both numbers
-unfoldable pub periodCovers : ℕ → Period → Period → Bool
-periodCovers rows old new = eqb (linkState (old .link)) (linkState (new .link)) && contained 8 rows (old .context) (new .context)
+use Rattle.covering.specs.Entries.{Period, periodCovers}
 
 module _ (A B : Aut) where
   -- the one-letter words from s, by the transitions at which a period may start (from an accepting s by any): letters rising, successors rising

@@ -12,7 +12,6 @@ use automata::eight;
 use bits::rows;
 use growth::Growth;
 
-mod scan;
 mod table;
 
 // The table of an accepting state, compared on the rows of the target, from the one-letter words on: an accepting state opens a period by each of its

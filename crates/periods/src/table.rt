@@ -7,13 +7,11 @@ ghost use Rattle.bits.specs.Fields.{linkState};
 ghost use Rattle.growth.specs.Grow.{append, offer, table};
 ghost use Rattle.growth.specs.Steps.{gather};
 ghost use Rattle.automata.specs.Loaded.{cell, autOf, ofPairs};
-ghost use Rattle.periods.specs.Periods.{Period};
-ghost use Rattle.periods.specs.Lent.{contextIn, held};
-ghost use Rattle.periods.specs.Masks.{covers};
-ghost use Rattle.periods.specs.Chained.{Cleared};
+ghost use Rattle.covering.specs.Entries.{Period, contextIn, held};
+ghost use Rattle.covering.specs.Masks.{covers};
+ghost use Rattle.covering.specs.Chained.{Cleared};
 ghost use Rattle.periods.specs.Growing.{Roomy, Ready, Grows, Appends};
 ghost use Rattle.periods.specs.Candidates.{atState, atLetter, candidates, ofEntry};
-use crate::scan;
 use automata::Head;
 use automata::Pairs8;
 use automata::eight;
@@ -94,7 +92,7 @@ fn offer_at(
         return Growth::Ended(n);
     }
     let link = entries::period_link(q, by.letter, by.parent);
-    if scan::covered(links, contexts, chains, n, link, by.context, rows) {
+    if covering::covered(links, contexts, chains, n, link, by.context, rows) {
         return Growth::Ended(n);
     }
     append(links, contexts, chains, room, n, link, by.context)

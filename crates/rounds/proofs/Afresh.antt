@@ -9,9 +9,10 @@ use Rattle.growth.specs.Grow.{Outcome, ended, entries}
 use Rattle.growth.specs.declared.Growth.{Growth}
 use Rattle.growth.specs.declared.Growth.the-variants.{Ended, Full}
 use Rattle.growth.proofs.Offering.{ended-is, full-is, take-over}
-use Rattle.periods.specs.Periods.{Period, periodTable}
-use Rattle.periods.specs.Lent.{linksOf, contextsOf, Leaves}
-use Rattle.periods.proofs.Lent.{contexts-length}
+use Rattle.covering.specs.Entries.{Period, linksOf, contextsOf}
+use Rattle.periods.specs.Periods.{periodTable}
+use Rattle.periods.specs.Lent.{Leaves}
+use Rattle.covering.proofs.Entries.{contexts-length}
 use Rattle.rounds.specs.declared.Rounds.{Rounds}
 use Rattle.rounds.specs.declared.Rounds.the-variants.{Lacking}
 use Rattle.walk.specs.Walk.{Search, passed, rejected, search, pairsOf, accepts, searchRound}

@@ -5,7 +5,8 @@ use Prim.Native.Nat.{ℕ, max}
 use lib.ListN.{length}
 use Rattle.acceptance.specs.Lasso.{Aut}
 use Rattle.growth.specs.Grow.{Outcome, ended, full}
-use Rattle.periods.specs.Periods.{Period, periodTable}
+use Rattle.covering.specs.Entries.{Period}
+use Rattle.periods.specs.Periods.{periodTable}
 use Rattle.walk.specs.Walk.{Search, passed, rejected, searchRound, run}
 use Rattle.rounds.specs.Course.{Course, through, lacking, found, along, judged, roundOf, course, finishOf}
 

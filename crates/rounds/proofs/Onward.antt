@@ -8,7 +8,8 @@ use lib.ListN.{length}
 use Rattle.acceptance.specs.Lasso.{Aut}
 use Rattle.growth.specs.Grow.{Outcome, ended, full, entries}
 use Rattle.growth.specs.Steps.{gather}
-use Rattle.periods.specs.Periods.{Period, periodTable}
+use Rattle.covering.specs.Entries.{Period}
+use Rattle.periods.specs.Periods.{periodTable}
 use Rattle.rounds.specs.declared.Rounds.{Rounds}
 use Rattle.rounds.specs.declared.Rounds.the-variants.{Through}
 use Rattle.walk.specs.Walk.{Search, passed, rejected, searchRound}

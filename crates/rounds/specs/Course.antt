@@ -9,8 +9,8 @@ use Rattle.bits.specs.Fields.{stemState, stemTarget}
 use Rattle.acceptance.specs.Lasso.{Aut}
 use Rattle.growth.specs.Grow.{ended, full}
 use Rattle.growth.specs.Steps.{gather, only}
-use Rattle.periods.specs.Periods.{Period, periodTable}
-use Rattle.periods.specs.Lent.{linksOf}
+use Rattle.covering.specs.Entries.{Period, linksOf}
+use Rattle.periods.specs.Periods.{periodTable}
 use Rattle.lassos.specs.declared.Found.{Found as Tested}
 use Rattle.lassos.specs.declared.Found.the-variants.{Passed, Rejected}
 use Rattle.rounds.specs.declared.Rounds.{Rounds}

@@ -9,8 +9,8 @@ use lib.ListN.{length, getD, take, length-map}
 use Rattle.acceptance.specs.Lasso.{Aut}
 use Rattle.growth.specs.Grow.{Outcome, ended, full, entries}
 use Rattle.growth.proofs.Steps.{steps-mem}
-use Rattle.periods.specs.Periods.{Period, periodTable}
-use Rattle.periods.specs.Lent.{linksOf, contextsOf}
+use Rattle.covering.specs.Entries.{Period, linksOf, contextsOf}
+use Rattle.periods.specs.Periods.{periodTable}
 use Rattle.periods.proofs.Packed.{period-parents}
 use Rattle.rounds.specs.declared.Rounds.{Rounds}
 use Rattle.rounds.specs.declared.Rounds.the-variants.{Found}

@@ -16,8 +16,8 @@ use Rattle.growth.specs.Steps.{gather, steps}
 use Rattle.growth.specs.Tables.{contained}
 use Rattle.automata.specs.Repeated.{via, pathsOver, closure, turning, ledOn, leadingInto, repeatedBy, repeated}
 use Rattle.stems.specs.Stems.{targetCovers, stemCovers, stemRoot, stemNext, stemTable}
-use Rattle.periods.specs.Periods.{periodCovers, periodFirst, periodNext, periodTable}
-use Rattle.periods.specs.Lent.{contextsOf}
+use Rattle.covering.specs.Entries.{periodCovers, contextsOf}
+use Rattle.periods.specs.Periods.{periodFirst, periodNext, periodTable}
 use Rattle.walk.specs.Words.{chain}
 use Rattle.walk.specs.Walk.{Verdict, included, shown, stemsFull, periodsFull, Walked, search, opening, rounds, fits, pairsOf, accepts, run, walk}
 

@@ -18,9 +18,9 @@ use Rattle.growth.specs.Numbered.{Bounded, Numbered}
 use Rattle.growth.specs.Tables.{members}
 use Rattle.growth.proofs.Steps.{steps-mem, steps-length, column-length}
 use Rattle.stems.proofs.Packed.{stem-bound, stem-enough}
-use Rattle.periods.specs.Periods.{Period, periodTable}
+use Rattle.covering.specs.Entries.{Period, linksOf, contextsOf}
+use Rattle.periods.specs.Periods.{periodTable}
 use Rattle.periods.proofs.Packed.{period-bound, period-bound-all, period-enough}
-use Rattle.periods.specs.Lent.{linksOf, contextsOf}
 use Rattle.walk.specs.Walk.{Finish, Walked, Search, fits, searchRound, opening, rounds, pairsOf, accepts, walk}
 use Rattle.walk.specs.Room.{decided, Bounds}
 use Rattle.walk.proofs.Runs.{made, searched, searched-made, Ran, done, lacking, going, found, Walks, u-full, w-full, ran, walks}

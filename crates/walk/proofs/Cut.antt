@@ -14,8 +14,8 @@ use Rattle.acceptance.specs.Lasso.{Aut}
 use Rattle.growth.specs.Grow.{Outcome, ended, full, entries, table}
 use Rattle.growth.proofs.Rooms.{table-length, table-filled, table-fits, table-overfull}
 use Rattle.stems.specs.Stems.{stemCovers, stemRoot, stemNext, stemTable}
-use Rattle.periods.specs.Periods.{Period, periodCovers, periodFirst, periodNext, periodTable}
-use Rattle.periods.specs.Lent.{linksOf}
+use Rattle.covering.specs.Entries.{Period, periodCovers, linksOf}
+use Rattle.periods.specs.Periods.{periodFirst, periodNext, periodTable}
 use Rattle.walk.specs.Walk.{shown, stemsFull, periodsFull, Finish, run}
 use Rattle.walk.specs.Words.{stemWord, periodWord}
 use Rattle.walk.specs.Room.{decided, Visit, visits, stopsAt}

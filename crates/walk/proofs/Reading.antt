@@ -20,7 +20,7 @@ use Rattle.stems.proofs.Parents as parents
 use Rattle.periods.proofs.Packed as periods
 use Rattle.periods.proofs.Packed.{periodEntries, packedPeriods}
 use Rattle.walk.specs.Words.{topOf, chain, stemWord, periodWord}
-use Rattle.periods.specs.Lent.{linksOf}
+use Rattle.covering.specs.Entries.{linksOf}
 
 pub chain-top : (links : Bool) (t : List ℕ) (f : ℕ) {i : ℕ} → i ≡ topOf links → chain links t f i ≡ []
 unfolding chain

@@ -23,7 +23,7 @@ use Rattle.growth.proofs.Stems.{stems-true}
 use Rattle.growth.proofs.Inclusion.{Opening}
 use Rattle.stems.proofs.Packed as stems
 use Rattle.stems.proofs.Packed.{stemEntries, packedStems, stemKind}
-use Rattle.periods.specs.Periods.{Period}
+use Rattle.covering.specs.Entries.{Period}
 use Rattle.periods.proofs.Packed.{packedPeriods}
 use Rattle.walk.specs.Walk.{opening, rounds}
 

@@ -8,9 +8,9 @@ use lib.ListN.{length}
 use Rattle.acceptance.specs.Lasso.{Aut}
 use Rattle.growth.specs.Grow.{Outcome, ended, full}
 use Rattle.stems.specs.Stems.{stemTable}
-use Rattle.periods.specs.Periods.{Period, periodTable}
+use Rattle.covering.specs.Entries.{Period, linksOf}
+use Rattle.periods.specs.Periods.{periodTable}
 use Rattle.walk.specs.Words.{stemWord, periodWord}
-use Rattle.periods.specs.Lent.{linksOf}
 use Rattle.walk.specs.Walk.{included, shown, stemsFull, periodsFull, Finish, Walked, Search, passed, rejected, search, rounds, searchRound, run, walk}
 use Rattle.walk.specs.Room.{decided}
 

@@ -25,11 +25,10 @@ use Rattle.automata.proofs.Accepting.{accepted}
 use Rattle.stems.specs.Stems.{targetCovers}
 use Rattle.stems.proofs.Packed as stems
 use Rattle.stems.proofs.Packed.{stemEntries}
-use Rattle.periods.specs.Periods.{Period}
+use Rattle.covering.specs.Entries.{Period, linksOf, contextsOf, contextIn}
 use Rattle.periods.proofs.Packed as periods
 use Rattle.periods.proofs.Packed.{periodEntries, linkAt}
 use Rattle.walk.specs.Words.{stemWord, periodWord}
-use Rattle.periods.specs.Lent.{linksOf, contextsOf, contextIn}
 use Rattle.walk.specs.Walk.{rounds, fits, pairsOf, accepts}
 use Rattle.walk.proofs.Reading.{stem-word, period-word}
 use Rattle.walk.proofs.Rounds.{tableU, tableW, tableV, round-mem, round-rows}

@@ -12,10 +12,10 @@ use Rattle.growth.specs.Numbered.{Bounded}
 use Rattle.growth.proofs.Inclusion as inclusion
 use Rattle.stems.specs.Stems.{targetCovers, stemTable}
 use Rattle.stems.proofs.Packed.{stem-complete}
-use Rattle.periods.specs.Periods.{Period, periodTable}
+use Rattle.covering.specs.Entries.{Period, linksOf, contextsOf}
+use Rattle.periods.specs.Periods.{periodTable}
 use Rattle.periods.proofs.Packed.{period-complete}
 use Rattle.walk.specs.Words.{stemWord, periodWord}
-use Rattle.periods.specs.Lent.{linksOf, contextsOf}
 use Rattle.walk.specs.Walk.{included, shown, Finish, rounds, pairsOf, accepts, walk, passed, rejected}
 use Rattle.walk.specs.Room.{decided}
 use Rattle.walk.proofs.Runs.{Searched, all-pass, one-fails, searched, Ran, done, lacking, going, found, walks, whole}

@@ -12,8 +12,8 @@ use Rattle.growth.specs.Grow.{ended, full}
 use Rattle.growth.specs.Steps.{steps}
 use Rattle.automata.specs.Repeated.{repeated}
 use Rattle.stems.specs.Stems.{stemTable}
-use Rattle.periods.specs.Periods.{Period, periodTable}
-use Rattle.periods.specs.Lent.{linksOf, contextsOf, contextIn}
+use Rattle.covering.specs.Entries.{Period, linksOf, contextsOf, contextIn}
+use Rattle.periods.specs.Periods.{periodTable}
 use Rattle.walk.specs.Words.{stemWord, periodWord}
 
 -- included and shown are document 01's answer 0, stemsFull is 8 (0 for U, 1 for W), periodsFull is 9

@@ -5,7 +5,7 @@ use Prim.Native.Nat.{_-_, _<_}
 use native.Mathlib.Omega.{arith}
 use Rattle.automata.specs.Loaded.{cell, autOf, ofPairs}
 use Rattle.growth.specs.Grow.{table}
-use Rattle.periods.specs.Masks.{covers}
+use Rattle.covering.specs.Masks.{covers}
 use Rattle.periods.specs.Candidates.{candidates, ofEntry}
 use Rattle.periods.proofs.Going.{Going}
 use Rattle.periods.proofs.Candidates.{word-entry}

@@ -3,8 +3,8 @@ use mathlib.Core.Path.{_∙_}
 use native.Mathlib.Omega.{arith}
 use Rattle.growth.specs.Grow.{offer}
 use Rattle.growth.specs.Steps.{gather}
-use Rattle.periods.specs.Lent.{held}
-use Rattle.periods.specs.Masks.{covers}
+use Rattle.covering.specs.Entries.{held}
+use Rattle.covering.specs.Masks.{covers}
 use Rattle.periods.proofs.Going.{Going}
 use Rattle.periods.specs.Candidates.{atState}
 use Rattle.periods.proofs.Rest.{Rest, rest-start, rest-half, rest-low, rest-none}

@@ -3,8 +3,8 @@ use mathlib.Core.Path.{_≡_}
 use Prim.Native.Nat.{_-_, _≤_}
 use native.Mathlib.Omega.{arith}
 use lib.ListN.{length}
-use Rattle.periods.specs.Chained.{Cleared}
-use Rattle.periods.proofs.Chain.{cleared}
+use Rattle.covering.specs.Chained.{Cleared}
+use Rattle.covering.proofs.Chain.{cleared}
 use borrow.Author.Needs.{needs}
 use Rattle.periods.proofs.table.clear.Statement.{statement}
 use Rattle.periods.proofs.table.clear.Tie as tie

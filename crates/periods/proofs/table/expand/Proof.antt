@@ -4,8 +4,8 @@ use Prim.Native.Nat.{_-_, _≤_}
 use native.Mathlib.Omega.{arith}
 use Rattle.automata.specs.Loaded.{cell, autOf, ofPairs}
 use Rattle.growth.specs.Grow.{offer}
-use Rattle.periods.specs.Lent.{held}
-use Rattle.periods.specs.Masks.{covers}
+use Rattle.covering.specs.Entries.{held}
+use Rattle.covering.specs.Masks.{covers}
 use Rattle.periods.proofs.Offered.{offered-same}
 use Rattle.periods.proofs.Going.{Going}
 use Rattle.periods.specs.Candidates.{atLetter, candidates}

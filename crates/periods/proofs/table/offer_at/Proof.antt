@@ -1,7 +1,7 @@
 -- `table::offer_at` meets its contract: q is no successor, the candidate is covered and nothing changes, or it is appended. Assumes nothing.
 use mathlib.Core.Path.{refl, sym, _∙_}
 use borrow.Author.Tests.{not-true, not-false}
-use Rattle.periods.proofs.Masks.{covers-state}
+use Rattle.covering.proofs.Masks.{covers-state}
 use Rattle.periods.proofs.Offered.{offered-covered, offered-new, offered-some, offered-none}
 use borrow.Author.Needs.{needs}
 use Rattle.periods.proofs.table.offer_at.Statement.{statement}

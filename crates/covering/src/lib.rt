@@ -1,0 +1,115 @@
+//! Whether a candidate is covered: a look at entries of its state of A, as many as decide it.
+ghost use mathlib.Core.Path.{_≡_};
+ghost use mathlib.Core.Bool.{cond, not};
+ghost use mathlib.Core.List.{[]};
+ghost use Prim.Native.Nat.{_+_, _-_, _*_, _<_, _≤_};
+ghost use lib.ListN.{length, getD, set};
+ghost use Rattle.automata.specs.Loaded.{ofPairs};
+ghost use Rattle.growth.specs.Grow.{covered};
+ghost use Rattle.growth.specs.Steps.{only};
+ghost use Rattle.covering.specs.Entries.{Period, contextIn, held};
+ghost use Rattle.covering.specs.Masks.{lacking, having, apart, holds, covers};
+ghost use Rattle.covering.specs.Chained.{Chained, toFront};
+use automata::Pairs8;
+use bits::entries;
+
+// What the candidate's context lacks of the rows, found once for all entries.
+fn lacking(rows: u64, c: Pairs8) -> Pairs8
+    ensures { λ r. ⌜ ofPairs r ≡ lacking rows (ofPairs c) ⌝ }
+{
+    Pairs8 {
+        reach: rows & !c.reach,
+        through: rows & !c.through,
+    }
+}
+
+// What it has of them.
+fn having(rows: u64, c: Pairs8) -> Pairs8
+    ensures { λ r. ⌜ ofPairs r ≡ having rows (ofPairs c) ⌝ }
+{
+    Pairs8 {
+        reach: rows & c.reach,
+        through: rows & c.through,
+    }
+}
+
+// Whether the context at i has nothing of what is lacking: then it is contained in the candidate's on the rows.
+fn apart(contexts: &[u64], i: usize, lacking: Pairs8) -> bool
+    requires { ⌜ 2 * i + 1 < length (now contexts) ⌝ }
+    ensures { λ r. ⌜ r ≡ apart (contextIn (now (contexts .entry)) i) (ofPairs lacking) ⌝ }
+{
+    if contexts[2 * i] & lacking.reach != 0 {
+        return false;
+    }
+    contexts[2 * i + 1] & lacking.through == 0
+}
+
+// Whether the context at i has all that the candidate's has of the rows: then the candidate's is contained in it on the rows.
+fn holds(contexts: &[u64], i: usize, having: Pairs8) -> bool
+    requires { ⌜ 2 * i + 1 < length (now contexts) ⌝ }
+    ensures { λ r. ⌜ r ≡ holds (contextIn (now (contexts .entry)) i) (ofPairs having) ⌝ }
+{
+    if having.reach & !contexts[2 * i] != 0 {
+        return false;
+    }
+    having.through & !contexts[2 * i + 1] == 0
+}
+
+// The entry after the place comes first in the chain of the state, so that those that cover often are looked at first.
+fn to_front(chains: &mut [u16], state: usize, place: usize)
+    requires { ⌜ (state < length (now chains)) × (place < length (now chains)) × (getD (now chains) place 0 + 15 < length (now chains)) ⌝ }
+    ensures { λ r. ⌜ now (chains .exit) ≡ toFront (now (chains .entry)) state place ⌝ }
+{
+    let next = chains[place];
+    let after = next as usize + 15;
+    chains[place] = chains[after];
+    chains[after] = chains[state];
+    chains[state] = next;
+}
+
+// The place after the entry that the place leads to; or the same place, where that entry leaves the chain, since it has all that the candidate has.
+fn pass(contexts: &[u64], chains: &mut [u16], place: usize, next: usize, having: Pairs8) -> usize
+    requires { ⌜ (1 ≤ next) × (next ≤ 65535) × (2 * next ≤ length (now contexts)) × (place < length (now chains)) × (next + 15 < length (now chains)) ⌝ }
+    ensures { λ r. ⌜ r < length (now (chains .entry)) ⌝ }
+    ensures { λ r. ⌜ r ≡ cond (holds (contextIn (now (contexts .entry)) (next - 1)) (ofPairs having)) place (next + 15) ⌝ }
+    ensures { λ r. ⌜ now (chains .exit) ≡ cond (holds (contextIn (now (contexts .entry)) (next - 1)) (ofPairs having))
+        (set (now (chains .entry)) place (getD (now (chains .entry)) (next + 15) 0)) (now (chains .entry)) ⌝ }
+{
+    if holds(contexts, next - 1, having) {
+        chains[place] = chains[next + 15];
+        return place;
+    }
+    next + 15
+}
+
+// Whether one of the first n entries covers a candidate: the chain of the candidate's state decides it. An entry that the candidate is contained in leaves
+// the chain: the candidate, or the entry that covers it, covers what that entry covers. `links` and `n` are not read: they say which entries are meant.
+pub fn covered(
+    links: &[u32],
+    contexts: &[u64],
+    chains: &mut [u16],
+    n: usize,
+    link: u32,
+    c: Pairs8,
+    rows: u64,
+) -> bool
+    requires { ⌜ (2 * n ≤ length (now contexts)) × (16 + n ≤ length (now chains)) × (n ≤ 65535) ⌝ }
+    requires { ⌜ Chained (covers rows) (held n (now links) (now contexts)) [] (now chains) ⌝ }
+    ensures { λ r. ⌜ r ≡ covered (covers rows) (held n (now (links .entry)) (now (contexts .entry))) (record { link = link; context = ofPairs c }) ⌝ }
+    ensures { λ r. ⌜ Chained (covers rows) (held n (now (links .entry)) (now (contexts .entry))) (only (not r) (record { link = link; context = ofPairs c })) (now (chains .exit)) ⌝ }
+{
+    let missing = lacking(rows, c);
+    let having = having(rows, c);
+    let state = entries::link_state(link) as usize;
+    let mut place = state;
+    let mut next = chains[place] as usize;
+    while next != 0 {
+        if apart(contexts, next - 1, missing) {
+            to_front(chains, state, place);
+            return true;
+        }
+        place = pass(contexts, chains, place, next, having);
+        next = chains[place] as usize;
+    }
+    false
+}
