@@ -1,5 +1,5 @@
 -- The loop over the numbers below k that offers, for each in turn, its candidates. Assumes nothing.
-use mathlib.Core.Path.{_≡_, refl, ap, ap₂, _∙_, subst}
+use mathlib.Core.Path.{_≡_, refl, sym, ap, ap₂, _∙_, subst}
 use mathlib.Core.Bool.{Bool}
 use mathlib.Core.List.{List, [], _++_}
 use Prim.Native.Nat.{ℕ, zero, suc, _+_, _-_, _≤_, _<_}
@@ -8,7 +8,7 @@ use native.Mathlib.Omega.{arith}
 use lib.ListN.{length}
 use Rattle.growth.specs.declared.Growth.{Growth}
 use Rattle.growth.specs.declared.Growth.the-variants.{Ended, Full}
-use Rattle.growth.specs.Grow.{Outcome, offer}
+use Rattle.growth.specs.Grow.{Outcome, onward, offer}
 use Rattle.growth.specs.Steps.{gather}
 use Rattle.growth.proofs.Offering.{offer-none, gather-on, gather-done}
 use Rattle.covering.specs.Entries.{Period, held}
@@ -43,14 +43,18 @@ module _ (covers : Period → Period → Bool) (room : ℕ) (f : ℕ → List Pe
     unfolding from
     loop-stop h = going-end at (ap (offer covers room (held n links contexts)) (gather-none f i (k - i) h) ∙ offer-none covers room (held n links contexts))
 
-    module _ (h : i < k) {links′ contexts′ chains′ : List ℕ} where
-      pub loop-full : {r : Growth} → r ≡ Full → Grows covers (offer covers room (held n links contexts) (f i)) r links links′ contexts contexts′ chains′
-          → Grows covers o Full links₀ links′ contexts₀ contexts′ chains′
+    module _ (h : i < k) {cs : List Period} (same : cs ≡ f i) where
+      split : from i (held n links contexts) ≡ onward (offer covers room (held n links contexts) cs) (from (i + 1))
       unfolding from
-      loop-full e g = going-full at (f i) (from (i + 1)) (gather-on covers room f k i (held n links contexts) h) e g
+      split =
+          gather-on covers room f k i (held n links contexts) h
+          ∙ ap (λ (c : List Period). onward (offer covers room (held n links contexts) c) (from (i + 1))) (sym same)
 
-      pub loop-on : {r : Growth} {m : ℕ} → r ≡ Ended m → Grows covers (offer covers room (held n links contexts) (f i)) r links links′ contexts contexts′ chains′
+      pub loop-full : {r : Growth} {links′ contexts′ chains′ : List ℕ} → r ≡ Full → Grows covers (offer covers room (held n links contexts) cs) r links links′ contexts contexts′ chains′
+          → Grows covers o Full links₀ links′ contexts₀ contexts′ chains′
+      loop-full e g = going-full at cs (from (i + 1)) split e g
+
+      pub loop-on : {r : Growth} {m : ℕ} {links′ contexts′ chains′ : List ℕ} → r ≡ Ended m → Grows covers (offer covers room (held n links contexts) cs) r links links′ contexts contexts′ chains′
           → length links′ ≡ length links → length contexts′ ≡ length contexts → length chains′ ≡ length chains
           → Going covers room o (from (i + 1)) links₀ links′ contexts₀ contexts′ chains₀ chains′ m
-      unfolding from
-      loop-on e g ll cl tl = going-on at (f i) (from (i + 1)) (gather-on covers room f k i (held n links contexts) h) e g ll cl tl
+      loop-on e g ll cl tl = going-on at cs (from (i + 1)) split e g ll cl tl

@@ -73,9 +73,3 @@ module _ (covers : Period → Period → Bool) {room n : ℕ} {links contexts ch
     pub offered-none : bit (by .successors) q ≡ false → Grows covers (offer covers room (held n links contexts) (atState by q)) (Ended n) links links contexts contexts chains
     unfolding atState
     offered-none p = rw (p, offer-none covers room (held n links contexts)) (unchanged (ready .roomy) refl (ap Ended (sym (held-length links contexts n))) (ready .chained))
-
--- the same candidates by another name
-pub offered-same : (covers : Period → Period → Bool) (room : ℕ) (t : List Period) {cs ds : List Period} {r : Growth} {links links′ contexts contexts′ chains : List ℕ} → cs ≡ ds
-    → Grows covers (offer covers room t cs) r links links′ contexts contexts′ chains → Grows covers (offer covers room t ds) r links links′ contexts contexts′ chains
-offered-same covers room t {r = r} {links} {links′} {contexts} {contexts′} {chains} e g =
-    subst (λ (cs : List Period). Grows covers (offer covers room t cs) r links links′ contexts contexts′ chains) e g

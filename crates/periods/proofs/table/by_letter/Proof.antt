@@ -1,5 +1,5 @@
 -- `table::by_letter` meets its contract. The loop's invariant: what the states from q on give is what all give. Assumes nothing.
-use mathlib.Core.Path.{_∙_}
+use mathlib.Core.Path.{refl, _∙_}
 use native.Mathlib.Omega.{arith}
 use Rattle.growth.specs.Grow.{offer}
 use Rattle.growth.specs.Steps.{gather}
@@ -45,7 +45,7 @@ same-length-3 c = c .before .before .before .before .before .before .before .bef
 
 returns : tie.Need-returns Inv-loop μ-loop
 returns c =
-    loop-full _ _ _ _ _ (c .before .before .before .before .before .before .before .before .before .before .before .before .before .loop .inv .1) (rest-low (c .before .before .before .before .before .before .before .before .before .before .before .before .before .loop .inv .0) (omega arith)) (c .enum-told .given .1)
+    loop-full _ _ _ _ _ (c .before .before .before .before .before .before .before .before .before .before .before .before .before .loop .inv .1) (rest-low (c .before .before .before .before .before .before .before .before .before .before .before .before .before .loop .inv .0) (omega arith)) refl (c .enum-told .given .1)
     (c .before .before .before .before .before .before .before .before .offer-at .ensures)
 
 add-q : tie.Need-add-q Inv-loop μ-loop
@@ -58,7 +58,7 @@ loop-again : tie.Need-loop-again Inv-loop μ-loop
 loop-again c =
     let called = c .before .before .before .before .before .before .before .before .before .offer-at in (
       rest-half (c .before .before .before .before .before .before .before .before .before .before .before .before .before .before .loop .inv .0),
-      loop-on _ _ _ _ _ (c .before .before .before .before .before .before .before .before .before .before .before .before .before .before .loop .inv .1) (rest-low (c .before .before .before .before .before .before .before .before .before .before .before .before .before .before .loop .inv .0) (omega arith)) (c .before .more .given .1) (called .ensures)
+      loop-on _ _ _ _ _ (c .before .before .before .before .before .before .before .before .before .before .before .before .before .before .loop .inv .1) (rest-low (c .before .before .before .before .before .before .before .before .before .before .before .before .before .before .loop .inv .0) (omega arith)) refl (c .before .more .given .1) (called .ensures)
           (called .kept .0) (called .kept .1 .0) (called .kept .1 .1 .0),
     )
 

@@ -6,7 +6,6 @@ use Rattle.automata.specs.Loaded.{cell, autOf, ofPairs}
 use Rattle.growth.specs.Grow.{offer}
 use Rattle.covering.specs.Entries.{held}
 use Rattle.covering.specs.Masks.{covers}
-use Rattle.periods.proofs.Offered.{offered-same}
 use Rattle.periods.proofs.Going.{Going}
 use Rattle.periods.specs.Candidates.{atLetter, candidates}
 use Rattle.periods.proofs.Loop.{from, loop-start, loop-end, loop-full, loop-on}
@@ -50,8 +49,8 @@ same-length-3 c = c .before .before .before .before .before .before .before .bef
 
 returns : tie.Need-returns Inv-loop μ-loop
 returns c =
-    loop-full _ _ _ _ _ (c .before .before .before .before .before .before .before .before .before .before .before .before .before .before .loop .inv .1) (omega arith) (c .enum-told .given .1)
-    (offered-same _ _ _ (c .before .before .before .before .before .before .before .before .before .before .before .before .step .ensures .1) (c .before .before .before .before .before .before .before .before .by-letter .ensures))
+    loop-full _ _ _ _ _ (c .before .before .before .before .before .before .before .before .before .before .before .before .before .before .loop .inv .1) (omega arith) (c .before .before .before .before .before .before .before .before .before .before .before .before .step .ensures .1) (c .enum-told .given .1)
+    (c .before .before .before .before .before .before .before .before .by-letter .ensures)
 
 add-x : tie.Need-add-x Inv-loop μ-loop
 add-x c = search needs
@@ -63,8 +62,8 @@ loop-again : tie.Need-loop-again Inv-loop μ-loop
 loop-again c =
     let called = c .before .before .before .before .before .before .before .before .before .by-letter in (
       search needs,
-      loop-on _ _ _ _ _ (c .before .before .before .before .before .before .before .before .before .before .before .before .before .before .before .loop .inv .1) (omega arith) (c .before .more .given .1)
-          (offered-same _ _ _ (c .before .before .before .before .before .before .before .before .before .before .before .before .before .step .ensures .1) (called .ensures))
+      loop-on _ _ _ _ _ (c .before .before .before .before .before .before .before .before .before .before .before .before .before .before .before .loop .inv .1) (omega arith) (c .before .before .before .before .before .before .before .before .before .before .before .before .before .step .ensures .1) (c .before .more .given .1)
+          (called .ensures)
           (called .kept .0) (called .kept .1 .0) (called .kept .1 .1 .0),
     )
 
