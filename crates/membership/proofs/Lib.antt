@@ -3,3 +3,4 @@ pub mod Walked
 pub mod Judged
 pub mod Right
 pub mod Samples
+pub mod Wrong
