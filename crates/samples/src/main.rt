@@ -108,16 +108,23 @@ fn verdicts() {
     );
 }
 
-// M6, M7 and M13: room.
+// M6 and M7: room.
 fn room() {
     let all = b"I\0\0\0F\0\0\0T\0\0\0T\0\x01\0";
     let often = b"I\0\0\0F\x01\0\0T\0\0\x01T\0\x01\0T\x01\0\x01T\x01\x01\0";
     let mut stem = [0u8; 4097];
-    let mut short = [0u8; 4095];
     decide(b"M6 S=1", all, often, 1, 2048, &mut stem);
     decide(b"M6 S=2", all, often, 2, 2048, &mut stem);
     decide(b"M7 P=1", all, often, 4096, 1, &mut stem);
     decide(b"M7 P=2", all, often, 4096, 2, &mut stem);
+}
+
+// M13: room out of range, and an output that is too short.
+fn limits() {
+    let all = b"I\0\0\0F\0\0\0T\0\0\0T\0\x01\0";
+    let often = b"I\0\0\0F\x01\0\0T\0\0\x01T\0\x01\0T\x01\0\x01T\x01\x01\0";
+    let mut stem = [0u8; 4097];
+    let mut short = [0u8; 4095];
     decide(b"M13 S=0", all, often, 0, 2048, &mut stem);
     decide(b"M13 S=4097", all, often, 4097, 2048, &mut stem);
     decide(b"M13 P=65536", all, often, 4096, 65536, &mut stem);
@@ -152,6 +159,7 @@ fn files() {
 fn main() {
     verdicts();
     room();
+    limits();
     lassos();
     files();
 }
