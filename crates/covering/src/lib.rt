@@ -7,7 +7,7 @@ ghost use lib.ListN.{length, getD, set};
 ghost use Rattle.automata.specs.Loaded.{ofPairs};
 ghost use Rattle.growth.specs.Grow.{covered};
 ghost use Rattle.growth.specs.Steps.{only};
-ghost use Rattle.covering.specs.Entries.{Period, contextIn, held};
+ghost use Rattle.covering.specs.Entries.{contextIn, held};
 ghost use Rattle.covering.specs.Masks.{lacking, having, apart, holds, covers};
 ghost use Rattle.covering.specs.Chained.{Chained, toFront};
 use automata::Pairs8;

@@ -1,3 +1,3 @@
--- The laws of the search.
+-- The laws of the tests of one round.
 pub mod Pairs
 pub mod Served

@@ -1,13 +1,12 @@
 //! Candidates offered to the period table: one, those of a letter, those of an entry.
 ghost use mathlib.Core.Path.{_≡_};
-ghost use mathlib.Core.List.{_∷_};
 ghost use Prim.Native.Nat.{_+_, _*_, _<_, _≤_};
 ghost use lib.ListN.{length, getD};
 ghost use Rattle.bits.specs.Fields.{linkState};
 ghost use Rattle.growth.specs.Grow.{append, offer, table};
 ghost use Rattle.growth.specs.Steps.{gather};
 ghost use Rattle.automata.specs.Loaded.{cell, autOf, ofPairs};
-ghost use Rattle.covering.specs.Entries.{Period, contextIn, held};
+ghost use Rattle.covering.specs.Entries.{contextIn, held};
 ghost use Rattle.covering.specs.Masks.{covers};
 ghost use Rattle.covering.specs.Chained.{Cleared};
 ghost use Rattle.periods.specs.Growing.{Roomy, Ready, Grows, Appends};
