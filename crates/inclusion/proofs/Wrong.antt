@@ -1,4 +1,4 @@
--- Wrong answers of `numbers`, and of two steps of the entry point, that their contracts rule out, on an input each; those of the entry point itself stand in `Idle`.
+-- Wrong answers of `numbers`, and of two steps of the entry point, that their contracts rule out, on an input each; those of the entry point itself stand in promises/proofs/Idle.
 -- Assumes nothing.
 use mathlib.Core.Bool.{true, false≢true}
 use mathlib.Core.List.{List, [], _∷_}
@@ -12,8 +12,7 @@ use Rattle.records.specs.Faults.{refusal}
 use Rattle.search.specs.declared.Ending.the-variants.{StemsFull}
 use Rattle.inclusion.specs.declared.Answer.{Answer}
 use Rattle.inclusion.specs.declared.Answer.the-variants as says
-use Rattle.inclusion.specs.Answers.{lentEnough, answerTo, numbersOf}
-use Rattle.inclusion.specs.Samples.{counted}
+use Rattle.inclusion.specs.Answers.{lentEnough, counted, answerTo, numbersOf}
 use Rattle.inclusion.proofs.numbers.Reads as numbers
 use Rattle.inclusion.proofs.lent_enough.Reads as lent-enough
 use Rattle.inclusion.proofs.answer_to.Reads as answer-to

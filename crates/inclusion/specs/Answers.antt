@@ -27,8 +27,11 @@ lentEnough S P lent =
     && ((leb P (length (lent .links)) && leb (2 * P) (length (lent .contexts)))
     && (leb S (length (lent .stem)) && leb P (length (lent .period))))))
 
+abbrev pub counted : ℕ → ℕ → ℕ → ℕ → Counts
+counted u w p t = record { u = u; w = w; p = p; t = t }
+
 abbrev pub none-counted : Counts
-none-counted = record { u = 0; w = 0; p = 0; t = 0 }
+none-counted = counted 0 0 0 0
 
 -- what comes before the walk, from what reading the files answers and from whether enough is lent: 1 to 6 of the model, 1 to 6 of the rule, 7, and else the heads
 unfoldable pub outsetOf : Checked → Checked → Bool → Outset

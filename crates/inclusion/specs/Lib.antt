@@ -2,4 +2,3 @@
 pub mod Answers
 pub mod Decided
 pub mod Judged
-pub mod Samples

@@ -6,9 +6,9 @@ use Rattle.bits.specs.Bits.{any}
 use Rattle.records.specs.Spelled.{isRecord, among, started}
 use Rattle.records.specs.Faults.{again, fault, firstFault, goodRecords, headOf, judged, refusal}
 use Rattle.search.specs.Ending.{Buffers}
 use Rattle.inclusion.specs.declared.Answer.the-variants.{Refused}
 use Rattle.inclusion.specs.Answers.{lentEnough, none-counted, outsetOf, startOf, decided}
-use Rattle.inclusion.specs.Samples.{I}
+use Rattle.promises.specs.Samples.{I}
 
 -- an empty file has no I, and S = 0 is out of range
 pub order : (P : ℕ) (lent : Buffers)

@@ -12,9 +12,9 @@ use Rattle.membership.specs.Test.{tested}
 use Rattle.search.specs.declared.Counts.{Counts}
 use Rattle.search.specs.declared.Lengths.{Lengths}
 use Rattle.search.specs.Ending.{Buffers}
 use Rattle.inclusion.specs.declared.Answer.{Answer}
 use Rattle.inclusion.specs.declared.Answer.the-variants as says
-use Rattle.inclusion.specs.Answers.{decided, left}
+use Rattle.inclusion.specs.Answers.{counted, decided, left}
 
 -- ---- what a sample says
 
@@ -53,9 +53,6 @@ replyTo (pair model rule S P) = told (decided model rule S P lent) (left model r
 replyTo (lasso records stem period) = tests (tested records stem period)
 
 -- ---- the answers
-
-abbrev pub counted : ℕ → ℕ → ℕ → ℕ → Counts
-counted u w p t = record { u = u; w = w; p = p; t = t }
 
 abbrev pub included : Counts → Reply
 included c = decides (says.Included c) [] []

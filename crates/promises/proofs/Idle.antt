@@ -10,11 +10,12 @@ use Rattle.records.specs.declared.Refusal.{Refusal}
 use Rattle.search.specs.declared.Counts.{Counts}
 use Rattle.search.specs.declared.Lengths.{Lengths}
 use Rattle.search.specs.Ending.{Buffers}
 use Rattle.inclusion.specs.declared.Answer.{Answer}
 use Rattle.inclusion.specs.declared.Answer.the-variants as says
+use Rattle.inclusion.specs.Answers.{counted}
 use Rattle.inclusion.specs.Decided.{countsIn, Decided}
-use Rattle.inclusion.specs.Samples.{lent, Reply, decides, told, pair, replyTo, counted, included, shown, I, ALL, OFTEN, ONCE, TURNS, LEAVES, PAIRED, SETTLED, AWAY}
-use Rattle.inclusion.proofs.Samples.{samples-hold}
+use Rattle.promises.specs.Samples.{lent, Reply, decides, told, pair, replyTo, included, shown, I, ALL, OFTEN, ONCE, TURNS, LEAVES, PAIRED, SETTLED, AWAY}
+use Rattle.promises.proofs.Samples.{samples-hold}
 
 -- a result that the contract allows for two files, with the program's room and buffers
 abbrev Allowed : (model rule : List ℕ) → Answer → Buffers → Type 0

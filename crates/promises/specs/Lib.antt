@@ -1,0 +1,2 @@
+-- The samples.
+pub mod Samples
