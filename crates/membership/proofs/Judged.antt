@@ -63,9 +63,9 @@ module _ (A : Aut) (u v : Word) where
       unfolding testedOn
       bad-period e = let (b, p) = check-bad v (sym period ∙ e) in rw (ne-eqb (length v) 0 some, check-good u (sym stem ∙ good), b, e, p)
 
-      pub good-words : m ≡ Good → verdict A u v ≡ testedOn A u v
+      pub good-words : {r : Tested} → m ≡ Good → r ≡ verdict A u v → r ≡ testedOn A u v
       unfolding testedOn
-      good-words e = rw (ne-eqb (length v) 0 some, check-good u (sym stem ∙ good), check-good v (sym period ∙ e))
+      good-words e answer = answer ∙ rw (ne-eqb (length v) 0 some, check-good u (sym stem ∙ good), check-good v (sym period ∙ e))
 
   -- ---- the verdict, x being the stem's target and y the states from which the period is accepted
 
@@ -93,11 +93,12 @@ module _ (records : List ℕ) (u v : Word) where
   bad-file e g = ap (λ (f : Checked). Refused (refusalOf 0 f)) g ∙ ap byFile (sym g ∙ e)
 
   -- the loaded automaton is the one that the records spell out
-  pub good-file : {f : Checked} {head : Head} {table : List (List ℕ)} → f ≡ judged 16 records → table ≡ tableOf records (goodRecords 16 records) → f ≡ Fine head
-      → testedOn (autOf (cell table) head) u v ≡ tested records u v
+  pub good-file : {f : Checked} {head : Head} {table : List (List ℕ)} {r : Tested} → f ≡ judged 16 records → table ≡ tableOf records (goodRecords 16 records) → f ≡ Fine head
+      → r ≡ testedOn (autOf (cell table) head) u v → r ≡ tested records u v
   unfolding tested byFile
-  good-file {head = head} e t g =
-      ap (λ (t : List (List ℕ)). testedOn (autOf (cell t) head) u v) t
+  good-file {head = head} e t g answer =
+      answer
+      ∙ ap (λ (t : List (List ℕ)). testedOn (autOf (cell t) head) u v) t
       ∙ ap (λ (A : Aut). testedOn A u v) (loaded-model records (sym e ∙ g))
       ∙ ap byFile (sym g ∙ e)
 

@@ -1,6 +1,8 @@
 -- `judge` meets its contract. Assumes nothing.
+use mathlib.Core.Path.{ap, _∙_}
 use borrow.Author.Needs.{needs}
 use borrow.Author.Tests.{not-true, not-false}
+use Rattle.inclusion.specs.declared.Outset.the-variants.{Stops}
 use Rattle.inclusion.proofs.Judged.{model-refused, rule-refused, lacks, goes}
 use Rattle.inclusion.proofs.judge.Statement.{statement}
 use Rattle.inclusion.proofs.judge.Tie as tie
@@ -16,7 +18,7 @@ refusal-of-requires c κs = search needs
 
 returns : tie.Need-returns
 returns c = let args = c .before .before .before .args in
-    cc (model-refused (args .rule) (args .enough) (c .before .enum-told .given .1))
+    ap Stops (c .refusal-of .ensures) ∙ model-refused (args .rule) (args .enough) (c .before .enum-told .given .1)
 
 enum-known-rule : tie.Need-enum-known-rule
 enum-known-rule c = search needs
@@ -30,7 +32,7 @@ refusal-of-requires-2 c κs = search needs
 returns-2 : tie.Need-returns-2
 returns-2 c = let model = c .before .before .before .before in
     let args = model .before .before .args in
-    cc (rule-refused (args .rule) (args .enough) (model .model .given .1) (c .before .enum-told2 .given .1))
+    ap Stops (c .refusal-of2 .ensures) ∙ rule-refused (args .rule) (args .enough) (model .model .given .1) (c .before .enum-told2 .given .1)
 
 returns-3 : tie.Need-returns-3
 returns-3 c = let rule = c .before .before in

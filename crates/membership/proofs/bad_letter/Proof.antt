@@ -10,7 +10,7 @@ refused-requires : tie.Need-refused-requires
 refused-requires c κs = search needs
 
 returns : tie.Need-returns
-returns c = cc
+returns c = rw (c .before .place-of .ensures) at (c .refused .ensures)
 
 pub bad-letter-spec : {M : Type 1} → statement M
 bad-letter-spec = tie.close (tie.spec place-of-requires refused-requires returns)

@@ -1,6 +1,7 @@
 -- `test` meets its contract. Assumes nothing.
-use mathlib.Core.Path.{sym, _∙_}
+use mathlib.Core.Path.{ap, sym, _∙_}
 use borrow.Author.Needs.{needs}
+use Rattle.membership.specs.declared.Tested.the-variants.{Refused}
 use Rattle.membership.proofs.Judged.{bad-file, good-file, start-small}
 use Rattle.membership.proofs.Right.{test-right}
 use Rattle.membership.proofs.test.Statement.{statement}
@@ -22,7 +23,7 @@ returns : tie.Need-returns
 returns c =
     let read = c .before .before .before in
     let args = read .before .before .before .before .before .args in
-    test-right (cc (bad-file (args .records .now) (args .stem .now) (args .period .now) (read .read .ensures .0) (c .before .enum-told .given .1)))
+    test-right (ap Refused (c .refusal-of .ensures) ∙ bad-file (args .records .now) (args .stem .now) (args .period .now) (read .read .ensures .0) (c .before .enum-told .given .1))
 
 test-words-requires : tie.Need-test-words-requires
 test-words-requires c κs =
@@ -35,7 +36,7 @@ returns-2 c =
     let file = c .before .before .before in
     let read = file .before .before in
     let args = read .before .before .before .before .before .args in
-    test-right (cc (good-file (args .records .now) (args .stem .now) (args .period .now) (read .read .ensures .0) (read .read .ensures .1) (file .file .given .1)))
+    test-right (good-file (args .records .now) (args .stem .now) (args .period .now) (read .read .ensures .0) (read .read .ensures .1) (file .file .given .1) (c .test-words .ensures))
 
 pub test-spec : {M : Type 1} → statement M
 test-spec =

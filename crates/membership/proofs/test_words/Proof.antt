@@ -12,7 +12,7 @@ refused-requires c κs = search needs
 returns : tie.Need-returns
 returns c =
     let args = c .before .before .before .before .args in
-    cc (empty-period (autOf (cell (args .table .now)) (args .head)) (args .stem .now) (args .period .now) (c .before .if1 .taken))
+    c .refused .ensures ∙ empty-period (autOf (cell (args .table .now)) (args .head)) (args .stem .now) (args .period .now) (c .before .if1 .taken)
 
 check-requires : tie.Need-check-requires
 check-requires c κs = search needs
@@ -30,8 +30,8 @@ returns-2 : tie.Need-returns-2
 returns-2 c =
     let start = c .before .before .before .before in
     let args = start .before .before .before .args in
-    cc (bad-stem (autOf (cell (args .table .now)) (args .head)) (args .stem .now) (args .period .now)
-    (start .if1 .left) (c .before .before .before .check .ensures) (c .before .enum-told2 .given .1))
+    c .bad-letter .ensures ∙ bad-stem (autOf (cell (args .table .now)) (args .head)) (args .stem .now) (args .period .now)
+    (start .if1 .left) (c .before .before .before .check .ensures) (c .before .enum-told2 .given .1)
 
 check-requires-2 : tie.Need-check-requires-2
 check-requires-2 c κs = search needs
@@ -50,8 +50,8 @@ returns-3 c =
     let stem = c .before .before .before .before in
     let checked = stem .before .before in
     let args = checked .before .before .before .before .args in
-    cc (bad-period (autOf (cell (args .table .now)) (args .head)) (args .stem .now) (args .period .now)
-    (checked .before .if1 .left) (checked .check .ensures) (stem .enum-told .given .1) (c .before .before .before .check2 .ensures) (c .before .enum-told4 .given .1))
+    c .bad-letter2 .ensures ∙ bad-period (autOf (cell (args .table .now)) (args .head)) (args .stem .now) (args .period .now)
+    (checked .before .if1 .left) (checked .check .ensures) (stem .enum-told .given .1) (c .before .before .before .check2 .ensures) (c .before .enum-told4 .given .1)
 
 decide-requires : tie.Need-decide-requires
 decide-requires c κs =
@@ -68,8 +68,8 @@ returns-4 c =
     let stem = c .before .before .before .before in
     let checked = stem .before .before in
     let args = checked .before .before .before .before .args in
-    cc (good-words (autOf (cell (args .table .now)) (args .head)) (args .stem .now) (args .period .now)
-    (checked .before .if1 .left) (checked .check .ensures) (stem .enum-told .given .1) (c .before .before .before .check2 .ensures) (c .before .enum-told3 .given .1))
+    good-words (autOf (cell (args .table .now)) (args .head)) (args .stem .now) (args .period .now)
+    (checked .before .if1 .left) (checked .check .ensures) (stem .enum-told .given .1) (c .before .before .before .check2 .ensures) (c .before .enum-told3 .given .1) (c .decide .ensures)
 
 pub test-words-spec : {M : Type 1} → statement M
 test-words-spec =
