@@ -9,6 +9,7 @@ use Rattle.acceptance.specs.Lasso.{Included, Shown}
 use Rattle.growth.specs.Lent.{over}
 use Rattle.records.specs.declared.Refusal.{Refusal}
 use Rattle.records.specs.Spelled.{spelled}
+use Rattle.loading.proofs.Judged.{enough}
 use Rattle.search.specs.declared.Counts.{Counts}
 use Rattle.search.specs.declared.Lengths.{Lengths}
 use Rattle.walk.specs.Walk.{Verdict, Walked, unhindered}
@@ -19,9 +20,9 @@ use Rattle.walk.proofs.Bounds.{walk-bounds, walk-tables, walk-decided}
 use Rattle.walk.proofs.Room.{walk-filled, short}
 use Rattle.inclusion.specs.declared.Answer.{Answer}
 use Rattle.inclusion.specs.declared.Answer.the-variants as says
-use Rattle.inclusion.specs.Answers.{none-counted, Start, walks, stops, startOf, walkOf, decided, left, numbersOf}
+use Rattle.inclusion.specs.Answers.{sizesOf, none-counted, Start, walks, stops, startOf, walkOf, decided, left, numbersOf}
 use Rattle.inclusion.specs.Decided.{numberOf, countsIn, statesOf, Counted, Tabled, Lacking, Filled, Made, Decided}
-use Rattle.inclusion.proofs.Started.{enough, ready, model-bounded, rule-small, model-numbered, rule-numbered}
+use Rattle.inclusion.proofs.Started.{ready, model-bounded, rule-small, model-numbered, rule-numbered}
 use Rattle.inclusion.proofs.Refusals.{stop-number}
 use Rattle.inclusion.proofs.Answered.{answerBy, counts-are, zero-decided, eight-stems, nine-periods, included-from, shown-from}
 
@@ -64,7 +65,7 @@ module _ (model rule : List ℕ) (S P : ℕ) (old : Buffers) where
   is-shown (stopped refusal e) c l q = absurd (let z : _≡_ {A = ℕ} 0 1 = cc in omega arith)
   is-shown (walked m) c l q =
       let (_, _, k) = ready m in
-      let room = enough S P old (k .lends) in
+      let room = enough S P (sizesOf old) (k .lends) in
       let s = shown-from S P counts verdict q in
       rw (written (stemShown verdict) (old .stem) (s .stem-is), written (periodShown verdict) (old .period) (s .period-is))
       (walk-shown (model-bounded k) (rule-small k) S P (room .few-stems) (room .few-periods) (s .verdict-is))

@@ -3,6 +3,5 @@ pub mod Started
 pub mod Answered
 pub mod Demands
 pub mod Refusals
-pub mod Judged
 pub mod Loaded
 pub mod Wrong

@@ -1,6 +1,5 @@
 -- The entry point from the judgement on: where it stops, and where it makes the walk of the two loaded automata, which is that of the files.
 -- Assumes nothing.
-use mathlib.Core.Bool.{Bool}
 use mathlib.Core.List.{List}
 use mathlib.Core.Path.{_≡_, sym, ap, _∙_}
 use Prim.Native.Nat.{ℕ}
@@ -10,18 +9,19 @@ use Rattle.records.specs.declared.Refusal.{Refusal}
 use Rattle.records.specs.Spelled.{spelled}
 use Rattle.records.specs.Faults.{judged}
 use Rattle.records.proofs.Loaded.{loaded-model, loaded-rule}
+use Rattle.loading.specs.declared.Outset.{Outset}
+use Rattle.loading.specs.declared.Outset.the-variants.{Walks, Stops}
+use Rattle.loading.specs.Outset.{longEnough, outsetOf, Loads}
+use Rattle.loading.proofs.Judged.{enough, goes}
 use Rattle.search.specs.declared.Ending.{Ending}
 use Rattle.walk.specs.Walk.{Walked, walk}
 use Rattle.search.specs.Ending.{Buffers, endingOf, leftBy}
 use Rattle.search.specs.Contract.{Prepared, Concluded}
 use Rattle.inclusion.specs.declared.Answer.{Answer}
-use Rattle.inclusion.specs.declared.Outset.{Outset}
-use Rattle.inclusion.specs.declared.Outset.the-variants.{Walks, Stops}
-use Rattle.inclusion.specs.Answers.{lentEnough, outsetOf, startBy, startOf, answerTo, walkOf, decided, left}
-use Rattle.inclusion.specs.Judged.{Loads, stoppedBy}
+use Rattle.inclusion.specs.Answers.{sizesOf, startBy, startOf, answerTo, walkOf, decided, left}
 use Rattle.inclusion.specs.Decided.{Decided}
-use Rattle.inclusion.proofs.Started.{enough, Ready, ready, model-bounded, rule-small}
-use Rattle.inclusion.proofs.Judged.{goes}
+use Rattle.inclusion.specs.Stopped.{stoppedBy}
+use Rattle.inclusion.proofs.Started.{Ready, ready, model-bounded, rule-small}
 use Rattle.inclusion.proofs.Demands.{demands}
 
 -- the six buffers at once
@@ -36,21 +36,18 @@ leaves c = λ i. record {
 }
 
 module _ (model rule : List ℕ) (S P : ℕ) (lent : Buffers) where
-  heads : {a b : Head} → outsetOf (judged 16 model) (judged 8 rule) (lentEnough S P lent) ≡ Walks a b → Ready model rule S P lent a b
+  heads : {a b : Head} → outsetOf (judged 16 model) (judged 8 rule) (longEnough S P (sizesOf lent)) ≡ Walks a b → Ready model rule S P lent a b
   unfolding startOf
   heads e =
-      let (_, _, r) = ready (ap startBy e) in
-      let same = goes (judged 8 rule) (lentEnough S P lent) (r .model-good) (r .rule-good) (r .lends) ∙ e in
+      let (_, _, r) = ready {lent = lent} (ap startBy e) in
+      let same = goes (judged 8 rule) (longEnough S P (sizesOf lent)) (r .model-good) (r .rule-good) (r .lends) ∙ e in
       record { model-good = cc; rule-good = cc; lends = r .lends }
 
   -- what is known once both files are read
-  module _ {lends : Bool} {o : Outset} {model-table rule-table : List (List ℕ)} (lends-is : lends ≡ lentEnough S P lent) (loads : Loads model rule lends o model-table rule-table) where
-    judgement : o ≡ outsetOf (judged 16 model) (judged 8 rule) (lentEnough S P lent)
-    judgement = rw (loads .outset, lends-is)
-
+  module _ {o : Outset} {model-table rule-table : List (List ℕ)} (loads : Loads model rule (longEnough S P (sizesOf lent)) o model-table rule-table) where
     starts : startOf model rule S P lent ≡ startBy o
     unfolding startOf
-    starts = ap startBy (sym judgement)
+    starts = ap startBy (sym (loads .outset))
 
     -- ---- it stops
 
@@ -62,7 +59,7 @@ module _ (model rule : List ℕ) (S P : ℕ) (lent : Buffers) where
 
     module _ {a b : Head} (e : o ≡ Walks a b) where
       files : Ready model rule S P lent a b
-      files = heads (sym judgement ∙ e)
+      files = heads (sym (loads .outset) ∙ e)
 
       model-loaded : autOf (cell model-table) a ≡ spelled model
       model-loaded = rw (loads .model-read) (loaded-model model (files .model-good))
@@ -73,7 +70,7 @@ module _ (model rule : List ℕ) (S P : ℕ) (lent : Buffers) where
       -- what the walk asks for
       pub prepared : Prepared (autOf (cell model-table) a) (autOf (cell rule-table) b) S P lent
       prepared =
-          let room = enough S P lent (files .lends) in
+          let room = enough S P (sizesOf lent) (files .lends) in
           record {
             some-stems = room .some-stem;
             few-stems = room .few-stems;

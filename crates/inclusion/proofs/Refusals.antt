@@ -12,8 +12,9 @@ use Rattle.records.specs.declared.Checked.{Checked}
 use Rattle.records.specs.declared.Checked.the-variants.{Good, Refused as Faulty}
 use Rattle.records.specs.Spelled.{byte, kindI, kindF, kindT, count, started}
 use Rattle.records.specs.Faults.{again, fault, firstFault, goodRecords, headOf, judged}
+use Rattle.loading.specs.Outset.{longEnough, outsetOf}
 use Rattle.search.specs.Ending.{Buffers}
-use Rattle.inclusion.specs.Answers.{lentEnough, outsetOf, stops, startBy, startOf}
+use Rattle.inclusion.specs.Answers.{sizesOf, stops, startBy, startOf}
 
 -- ---- a file
 
@@ -65,7 +66,7 @@ module _ (states : ℕ) (s : List ℕ) where
 
 pub stop-number : (model rule : List ℕ) (S P : ℕ) (lent : Buffers) {r : Refusal} → startOf model rule S P lent ≡ stops r → (1 ≤ r .number) × (r .number ≤ 7)
 unfolding startOf outsetOf
-stop-number model rule S P lent {r} e = at (judged 16 model) refl (judged 8 rule) refl (lentEnough S P lent) e
+stop-number model rule S P lent {r} e = at (judged 16 model) refl (judged 8 rule) refl (longEnough S P (sizesOf lent)) e
   where
     at : (a : Checked) → judged 16 model ≡ a → (b : Checked) → judged 8 rule ≡ b → (c : Bool)
         → startBy (outsetOf a b c) ≡ stops r → (1 ≤ r .number) × (r .number ≤ 7)

@@ -20,46 +20,10 @@ use Rattle.records.specs.Spelled.{spelled}
 use Rattle.records.specs.Faults.{judged, headOf}
 use Rattle.records.proofs.Good.{good-file}
 use Rattle.records.proofs.Limits.{spelled-small}
+use Rattle.loading.specs.Outset.{longEnough, outsetOf}
 use Rattle.search.specs.Ending.{Buffers}
-use Rattle.inclusion.specs.Answers.{lentEnough, outsetOf, walks, startBy, startOf}
+use Rattle.inclusion.specs.Answers.{sizesOf, walks, startBy, startOf}
 use Rattle.inclusion.specs.Decided.{statesOf, Made}
-
--- ---- the room and the lengths
-
-pub record Enough (S P : ℕ) (lent : Buffers) : Type 0 where
-  pub some-stem : 1 ≤ S
-  pub few-stems : S ≤ 4096
-  pub some-period : 1 ≤ P
-  pub few-periods : P ≤ 65535
-  pub smallest-long : S ≤ length (lent .smallest)
-  pub largest-long : S ≤ length (lent .largest)
-  pub links-long : P ≤ length (lent .links)
-  pub contexts-long : 2 * P ≤ length (lent .contexts)
-  pub stem-long : S ≤ length (lent .stem)
-  pub period-long : P ≤ length (lent .period)
-
-pub enough : (S P : ℕ) (lent : Buffers) → lentEnough S P lent ≡ true → Enough S P lent
-unfolding lentEnough
-enough S P lent e =
-    let (stems, e) = both (ltb 0 S && leb S 4096) _ e in
-    let (periods, e) = both (ltb 0 P && leb P 65535) _ e in
-    let (tables, e) = both (leb S (length (lent .smallest)) && leb S (length (lent .largest))) _ e in
-    let (entries, outputs) = both (leb P (length (lent .links)) && leb (2 * P) (length (lent .contexts))) _ e in
-    record {
-      some-stem = ltb-true 0 S (both (ltb 0 S) _ stems .0);
-      few-stems = leb-true S 4096 (both (ltb 0 S) _ stems .1);
-      some-period = ltb-true 0 P (both (ltb 0 P) _ periods .0);
-      few-periods = leb-true P 65535 (both (ltb 0 P) _ periods .1);
-      smallest-long = leb-true S _ (both (leb S (length (lent .smallest))) _ tables .0);
-      largest-long = leb-true S _ (both (leb S (length (lent .smallest))) _ tables .1);
-      links-long = leb-true P _ (both (leb P (length (lent .links))) _ entries .0);
-      contexts-long = leb-true (2 * P) _ (both (leb P (length (lent .links))) _ entries .1);
-      stem-long = leb-true S _ (both (leb S (length (lent .stem))) _ outputs .0);
-      period-long = leb-true P _ (both (leb S (length (lent .stem))) _ outputs .1);
-    }
-  where
-    both : (a b : Bool) → (a && b) ≡ true → (a ≡ true) × (b ≡ true)
-    both a b e = (and-left a b e, and-right a b e)
 
 -- ---- a good file
 
@@ -77,14 +41,14 @@ within-limit n s few e = let limits = spelled-small n s few e in small-more (lim
 pub record Ready (model rule : List ℕ) (S P : ℕ) (lent : Buffers) (a b : Head) : Type 0 where
   pub model-good : judged 16 model ≡ Good a
   pub rule-good : judged 8 rule ≡ Good b
-  pub lends : lentEnough S P lent ≡ true
+  pub lends : longEnough S P (sizesOf lent) ≡ true
 
 module _ {model rule : List ℕ} {S P : ℕ} {lent : Buffers} where
   pub ready : Made model rule S P lent → (a : Head) × (b : Head) × Ready model rule S P lent a b
   unfolding startOf outsetOf
-  ready e = at (judged 16 model) refl (judged 8 rule) refl (lentEnough S P lent) refl (sym e)
+  ready e = at (judged 16 model) refl (judged 8 rule) refl (longEnough S P (sizesOf lent)) refl (sym e)
     where
-      at : (f : Checked) → judged 16 model ≡ f → (g : Checked) → judged 8 rule ≡ g → (c : Bool) → lentEnough S P lent ≡ c
+      at : (f : Checked) → judged 16 model ≡ f → (g : Checked) → judged 8 rule ≡ g → (c : Bool) → longEnough S P (sizesOf lent) ≡ c
           → walks ≡ startBy (outsetOf f g c) → (a : Head) × (b : Head) × Ready model rule S P lent a b
       at (Good a) ef (Good b) eg true ec e = (a, b, record { model-good = ef; rule-good = eg; lends = ec })
       at (Good a) ef (Good b) eg false ec e = absurd (let z : _≡_ {A = ℕ} 0 1 = cc in omega arith)

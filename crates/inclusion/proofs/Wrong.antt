@@ -1,20 +1,17 @@
--- Wrong answers of `numbers`, and of two steps of the entry point, that their contracts rule out, on an input each; those of the entry point itself stand in promises/proofs/Idle.
+-- Wrong answers of `numbers`, and of a step of the entry point, that their contracts rule out, on an input each; those of the entry point itself stand in promises/proofs/Idle.
 -- Assumes nothing.
-use mathlib.Core.Bool.{true, false≢true}
 use mathlib.Core.List.{List, [], _∷_}
-use mathlib.Core.Path.{ap, sym}
+use mathlib.Core.Path.{ap}
 use Prim.Native.Nat.{ℕ}
 use native.Mathlib.Omega.{arith}
-use contract.Lifetimes.{Lfts}
 use lib.ListN.{getD}
-use Rattle.bits.proofs.Refuses.{Refuses, lent}
+use Rattle.bits.proofs.Refuses.{Refuses}
 use Rattle.records.specs.Faults.{refusal}
 use Rattle.search.specs.declared.Ending.the-variants.{StemsFull}
 use Rattle.inclusion.specs.declared.Answer.{Answer}
 use Rattle.inclusion.specs.declared.Answer.the-variants as says
-use Rattle.inclusion.specs.Answers.{lentEnough, counted, answerTo, numbersOf}
+use Rattle.inclusion.specs.Answers.{counted, answerTo, numbersOf}
 use Rattle.inclusion.proofs.numbers.Reads as numbers
-use Rattle.inclusion.proofs.lent_enough.Reads as lent-enough
 use Rattle.inclusion.proofs.answer_to.Reads as answer-to
 
 -- u and w in each other's place
@@ -31,9 +28,3 @@ length-with-refusal x p = omega (arith, ap (λ (row : List ℕ). getD row 7 0) p
 pub place-of-eight : Refuses answer-to.Post (2, (3, (StemsFull 0 (counted 2 0 0 0), _))) (says.Refused (refusal 8 0 3) (counted 2 0 0 0))
 unfolding answerTo numbersOf
 place-of-eight x p = omega (arith, ap (λ (a : Answer). getD (numbersOf a) 2 0) p)
-
--- that one context number is enough for P = 1, which needs two
-pub contexts-not-measured : (κs : Lfts 6) → Refuses lent-enough.Post {k = κs}
-    (1, (1, (lent (0 ∷ []), (lent (0 ∷ []), (lent (0 ∷ []), (lent (0 ∷ []), (lent (0 ∷ []), (lent (0 ∷ []), _)))))))) true
-unfolding lentEnough
-contexts-not-measured κs x p = false≢true (sym p)

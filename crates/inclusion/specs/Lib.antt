@@ -1,4 +1,4 @@
 -- The definitions that the contracts cite.
 pub mod Answers
 pub mod Decided
-pub mod Judged
+pub mod Stopped

@@ -1,6 +1,6 @@
 //! The entry point: two record files, the room, and six lent buffers.
-use automata::Head;
-use records::Checked;
+use loading::Outset;
+use loading::Sizes;
 use records::Refusal;
 use search::Counts;
 use search::Ending;
@@ -9,105 +9,15 @@ ghost use mathlib.Core.List.{[], _∷_};
 ghost use mathlib.Core.Path.{_≡_};
 ghost use Rattle.records.specs.Faults.{refusal};
 ghost use Rattle.inclusion.specs.declared.Answer.the-variants.{Refused};
-ghost use Rattle.inclusion.specs.Answers.{lentEnough, outsetOf, answerTo, numbersOf};
+ghost use Rattle.inclusion.specs.Answers.{answerTo, numbersOf};
 ghost use Rattle.inclusion.specs.Decided.{Decided};
-ghost use Rattle.inclusion.specs.Judged.{Loads, stoppedBy};
+ghost use Rattle.inclusion.specs.Stopped.{stoppedBy};
 
 // What the tool answers: a verdict with its counts, for a shown lasso the lengths of its words, or a refusal with the counts so far.
 pub enum Answer {
     Included(Counts),
     NotIncluded(Counts, Lengths),
     Refused(Refusal, Counts),
-}
-
-// Whether the walk is made, with the heads of the two automata, or the refusal that comes before it.
-enum Outset {
-    Walks(Head, Head),
-    Stops(Refusal),
-}
-
-// What comes first: the model's refusal, the rule's, 7 where too little is lent, and else the walk.
-fn judge(model: Checked, rule: Checked, enough: bool) -> Outset
-    ensures { λ r. ⌜ r ≡ outsetOf model rule enough ⌝ }
-{
-    let Checked::Good(model_head) = model else {
-        return Outset::Stops(records::refusal_of(0, model));
-    };
-    let Checked::Good(rule_head) = rule else {
-        return Outset::Stops(records::refusal_of(1, rule));
-    };
-    if !enough {
-        return Outset::Stops(Refusal {
-            number: 7,
-            which: 0,
-            place: 0,
-        });
-    }
-    Outset::Walks(model_head, rule_head)
-}
-
-// Reads both files into tables, and judges them and what is lent.
-fn load(
-    model: &[u8],
-    rule: &[u8],
-    enough: bool,
-    model_table: &mut [[u16; 16]; 16],
-    rule_table: &mut [[u8; 8]; 16],
-) -> Outset
-    ensures { λ r. ⌜ Loads (now (model .entry)) (now (rule .entry)) enough r (now («model_table» .exit)) (now («rule_table» .exit)) ⌝ }
-{
-    let model_file = records::read(model, 16, model_table);
-    let mut wide = [[0u16; 16]; 16];
-    let rule_file = records::read(rule, 8, &mut wide);
-    *rule_table = records::narrowed(&wide);
-    judge(model_file, rule_file, enough)
-}
-
-// The room is in range, and the lent buffers are long enough for it.
-fn lent_enough(
-    stem_room: usize,
-    period_room: usize,
-    smallest: &[u32],
-    largest: &[u32],
-    links: &[u32],
-    contexts: &[u64],
-    stem: &[u8],
-    period: &[u8],
-) -> bool
-    ensures { λ r. ⌜ r ≡ lentEnough «stem_room» «period_room»
-        (record { smallest = now (smallest .entry); largest = now (largest .entry); links = now (links .entry); contexts = now (contexts .entry); stem = now (stem .entry); period = now (period .entry) }) ⌝ }
-{
-    if stem_room == 0 {
-        return false;
-    }
-    if stem_room > 4096 {
-        return false;
-    }
-    if period_room == 0 {
-        return false;
-    }
-    if period_room > 65535 {
-        return false;
-    }
-    if smallest.len() < stem_room {
-        return false;
-    }
-    if largest.len() < stem_room {
-        return false;
-    }
-    if links.len() < period_room {
-        return false;
-    }
-    if contexts.len() < 2 * period_room {
-        return false;
-    }
-    if stem.len() < stem_room {
-        return false;
-    }
-    if period.len() < period_room {
-        return false;
-    }
-    true
 }
 
 // A refusal with the counts so far.
@@ -170,19 +80,25 @@ pub fn decide(
         r
         (record { smallest = now (smallest .exit); largest = now (largest .exit); links = now (links .exit); contexts = now (contexts .exit); stem = now (stem .exit); period = now (period .exit) }) ⌝ }
 {
-    let enough = lent_enough(
-        stem_room,
-        period_room,
-        smallest,
-        largest,
-        links,
-        contexts,
-        stem,
-        period,
-    );
+    let sizes = Sizes {
+        smallest: smallest.len(),
+        largest: largest.len(),
+        links: links.len(),
+        contexts: contexts.len(),
+        stem: stem.len(),
+        period: period.len(),
+    };
     let mut model_table = [[0u16; 16]; 16];
     let mut rule_table = [[0u8; 8]; 16];
-    let outset = load(model, rule, enough, &mut model_table, &mut rule_table);
+    let outset = loading::load(
+        model,
+        rule,
+        stem_room,
+        period_room,
+        sizes,
+        &mut model_table,
+        &mut rule_table,
+    );
     let Outset::Walks(model_head, rule_head) = outset else {
         return stopped_by(outset);
     };

@@ -4,9 +4,6 @@ use Rattle.inclusion.proofs.Loaded.{stopped-right, prepared, walked-rig
 use Rattle.inclusion.proofs.decide.Statement.{statement}
 use Rattle.inclusion.proofs.decide.Tie as tie
 
-lent-enough-requires : tie.Need-lent-enough-requires
-lent-enough-requires c κs = search needs
-
 load-requires : tie.Need-load-requires
 load-requires c κs = search needs
 
@@ -18,6 +15,26 @@ enum-told c = search needs
 
 stopped-by-requires : tie.Need-stopped-by-requires
 stopped-by-requires c κs = search needs
+
+returns : tie.Need-returns
+returns c =
+    let load = c .before .before .before in
+    let args = load .before .before .before .before .before .before .before .before .before .before .before .args in
+    stopped-right (args .model .now) (args .rule .now) (args .stem-room) (args .period-room)
+    (record { smallest = args .smallest .now; largest = args .largest .now; links = args .links .now; contexts = args .contexts .now; stem = args .stem .now; period = args .period .now })
+    (load .load .ensures) (c .before .enum-told .given .1) (c .stopped-by .ensures)
+
+walk-requires : tie.Need-walk-requires
+walk-requires c κs =
+    let outset = c .before .before .before .before .before .before .before .before .before in
+    let load = outset .before .before in
+    let args = load .before .before .before .before .before .before .before .before .before .before .before .args in
+    prepared (args .model .now) (args .rule .now) (args .stem-room) (args .period-room)
+    (record { smallest = args .smallest .now; largest = args .largest .now; links = args .links .now; contexts = args .contexts .now; stem = args .stem .now; period = args .period .now })
+    (load .load .ensures) (outset .outset .given .1)
+
+answer-to-requires : tie.Need-answer-to-requires
+answer-to-requires c κs = search needs
 
 same-length : tie.Need-same-length
 same-length c = search needs
@@ -37,79 +54,31 @@ same-length-5 c = search needs
 same-length-6 : tie.Need-same-length-6
 same-length-6 c = search needs
 
-returns : tie.Need-returns
-returns c =
-    let load = c .before .before .before in
-    let lent = load .before .before .before in
-    let args = lent .before .before .before .before .before .before .before .before .before .before .before .before .before .before .before .args in
-    stopped-right (args .model .now) (args .rule .now) (args .stem-room) (args .period-room)
-    (record { smallest = args .smallest .now; largest = args .largest .now; links = args .links .now; contexts = args .contexts .now; stem = args .stem .now; period = args .period .now })
-    (lent .lent-enough .ensures) (load .load .ensures) (c .before .enum-told .given .1) (c .stopped-by .ensures)
-
-walk-requires : tie.Need-walk-requires
-walk-requires c κs =
-    let outset = c .before .before .before .before .before .before .before .before .before in
-    let load = outset .before .before in
-    let lent = load .before .before .before in
-    let args = lent .before .before .before .before .before .before .before .before .before .before .before .before .before .before .before .args in
-    prepared (args .model .now) (args .rule .now) (args .stem-room) (args .period-room)
-    (record { smallest = args .smallest .now; largest = args .largest .now; links = args .links .now; contexts = args .contexts .now; stem = args .stem .now; period = args .period .now })
-    (lent .lent-enough .ensures) (load .load .ensures) (outset .outset .given .1)
-
-answer-to-requires : tie.Need-answer-to-requires
-answer-to-requires c κs = search needs
-
-same-length-7 : tie.Need-same-length-7
-same-length-7 c = search needs
-
-same-length-8 : tie.Need-same-length-8
-same-length-8 c = search needs
-
-same-length-9 : tie.Need-same-length-9
-same-length-9 c = search needs
-
-same-length-10 : tie.Need-same-length-10
-same-length-10 c = search needs
-
-same-length-11 : tie.Need-same-length-11
-same-length-11 c = search needs
-
-same-length-12 : tie.Need-same-length-12
-same-length-12 c = search needs
-
 returns-2 : tie.Need-returns-2
 returns-2 c =
     let walk = c .before .before .before .before .before .before .before .before .before .before .before .before .before in
     let outset = walk .before .before .before .before .before .before .before .before .before .before in
     let load = outset .before .before in
-    let lent = load .before .before .before in
-    let args = lent .before .before .before .before .before .before .before .before .before .before .before .before .before .before .before .args in
+    let args = load .before .before .before .before .before .before .before .before .before .before .before .args in
     walked-right (args .model .now) (args .rule .now) (args .stem-room) (args .period-room)
     (record { smallest = args .smallest .now; largest = args .largest .now; links = args .links .now; contexts = args .contexts .now; stem = args .stem .now; period = args .period .now })
-    (lent .lent-enough .ensures) (load .load .ensures) (outset .outset .given .1) (walk .walk .ensures) (c .answer-to .ensures)
+    (load .load .ensures) (outset .outset .given .1) (walk .walk .ensures) (c .answer-to .ensures)
 
 pub decide-spec : {M : Type 1} → statement M
 decide-spec =
     tie.close
     (tie.spec
-    lent-enough-requires
     load-requires
     enum-known-outset
     enum-told
     stopped-by-requires
+    returns
+    walk-requires
+    answer-to-requires
     same-length
     same-length-2
     same-length-3
     same-length-4
     same-length-5
     same-length-6
-    returns
-    walk-requires
-    answer-to-requires
-    same-length-7
-    same-length-8
-    same-length-9
-    same-length-10
-    same-length-11
-    same-length-12
     returns-2)

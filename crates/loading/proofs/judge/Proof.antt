@@ -2,10 +2,10 @@
 use mathlib.Core.Path.{ap, _∙_}
 use borrow.Author.Needs.{needs}
 use borrow.Author.Tests.{not-true, not-false}
-use Rattle.inclusion.specs.declared.Outset.the-variants.{Stops}
-use Rattle.inclusion.proofs.Judged.{model-refused, rule-refused, lacks, goes}
-use Rattle.inclusion.proofs.judge.Statement.{statement}
-use Rattle.inclusion.proofs.judge.Tie as tie
+use Rattle.loading.specs.declared.Outset.the-variants.{Stops}
+use Rattle.loading.proofs.Judged.{model-refused, rule-refused, lacks, goes}
+use Rattle.loading.proofs.judge.Statement.{statement}
+use Rattle.loading.proofs.judge.Tie as tie
 
 enum-known-model : tie.Need-enum-known-model
 enum-known-model c = search needs

@@ -1,0 +1,3 @@
+-- The laws of the judgement before the walk.
+pub mod Judged
+pub mod Wrong
