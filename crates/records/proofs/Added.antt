@@ -13,7 +13,7 @@ use Rattle.bits.proofs.Operations.{bit-power}
 use Rattle.bits.proofs.Values.{values-cong, values-set}
 use Rattle.automata.specs.Loaded.{cell}
 use Rattle.records.specs.Spelled.{byte, kindF, kindT, isRecord, among, tableOf, acceptingIn}
-use Rattle.records.specs.Steps.{cellWith}
+use Rattle.adding.specs.Steps.{cellWith}
 use Rattle.records.proofs.Table.{row, row-at, cell-at}
 
 -- one more member

@@ -10,7 +10,7 @@ use lib.Dec.{eqb}
 use borrow.Author.Tests.{eq-eqb, ne-eqb}
 use Rattle.bits.specs.Bits.{any}
 use Rattle.bits.proofs.Truth.{or-cases}
-use Rattle.records.specs.declared.adding.Record.{Record}
+use Rattle.adding.specs.declared.Record.{Record}
 use Rattle.records.specs.Spelled.{byte, kindI, started, startIn}
 use Rattle.records.specs.Faults.{fault, firstFault}
 use Rattle.records.proofs.Says.{Says, initial, accepting, transition, wrong, says}

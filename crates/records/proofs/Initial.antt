@@ -12,7 +12,7 @@ use Rattle.bits.proofs.Digits.{lt-or-ge}
 use Rattle.bits.proofs.Quantifiers.{any-intro, any-elim}
 use Rattle.automata.specs.declared.Head.{Head}
 use Rattle.records.specs.declared.Checked.the-variants.{Good}
-use Rattle.records.specs.declared.adding.Record.{Record}
+use Rattle.adding.specs.declared.Record.{Record}
 use Rattle.records.specs.Spelled.{byte, count, kindI, started, startIn, spelled}
 use Rattle.records.specs.Faults.{again, fault, judged}
 use Rattle.records.proofs.Says.{Says, initial, accepting, transition, wrong, says}

@@ -16,7 +16,7 @@ use Rattle.bits.proofs.Truth.{and-left, and-right, or-cases, false-from}
 use Rattle.acceptance.specs.Contexts.{Small}
 use Rattle.automata.specs.declared.Head.{Head}
 use Rattle.records.specs.declared.Checked.the-variants.{Good}
-use Rattle.records.specs.declared.adding.Record.{Record}
+use Rattle.adding.specs.declared.Record.{Record}
 use Rattle.records.specs.Spelled.{byte, count, kindI, kindF, kindT, isRecord, among, started, startIn, named, statesIn, spelled, acceptingIn}
 use Rattle.records.specs.Faults.{headOf, judged}
 use Rattle.records.proofs.Says.{Says, initial, accepting, transition, wrong, says}

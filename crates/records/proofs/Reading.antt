@@ -12,12 +12,12 @@ use Rattle.bits.specs.Bits.{pack, weight, setOf, any}
 use Rattle.automata.specs.declared.Head.{Head}
 use Rattle.records.specs.declared.Checked.{Checked}
 use Rattle.records.specs.declared.Checked.the-variants.{Good, Refused}
-use Rattle.records.specs.declared.adding.Record.{Record}
-use Rattle.records.specs.declared.adding.Step.{Step}
-use Rattle.records.specs.declared.adding.Step.the-variants.{On, Stop}
+use Rattle.adding.specs.declared.Record.{Record}
+use Rattle.adding.specs.declared.Step.{Step}
+use Rattle.adding.specs.declared.Step.the-variants.{On, Stop}
 use Rattle.records.specs.Spelled.{count, among, acceptingIn, statesIn, started, startIn, tableOf}
 use Rattle.records.specs.Faults.{fault, firstFault, goodRecords, headOf, judged}
-use Rattle.records.specs.Steps.{recordAt, stepBy, tableBy, stopOf}
+use Rattle.adding.specs.Steps.{recordAt, stepBy, tableBy, stopOf}
 use Rattle.records.proofs.Clean.{Clean, clean-none, clean-more, first-here, first-later, start-below}
 use Rattle.records.proofs.Turn.{headIn, start-test, turn-step, turn-table}
 

@@ -7,11 +7,11 @@ use native.Mathlib.Omega.{arith}
 use lib.Dec.{eqb, ltb}
 use borrow.Author.Tests.{ltb-true, eqb-true}
 use Rattle.bits.proofs.Truth.{and-left, and-right}
-use Rattle.records.specs.declared.adding.Record.{Record}
-use Rattle.records.specs.declared.adding.Record.the-variants.{Initial, Accepting, Transition, Wrong}
+use Rattle.adding.specs.declared.Record.{Record}
+use Rattle.adding.specs.declared.Record.the-variants.{Initial, Accepting, Transition, Wrong}
 use Rattle.records.specs.Spelled.{byte, kindI, kindF, kindT}
 use Rattle.records.specs.Faults.{again, fault}
-use Rattle.records.specs.Steps.{recordOf, recordAt, Sized}
+use Rattle.adding.specs.Steps.{recordOf, recordAt, Sized}
 
 module _ (states : ℕ) (s : List ℕ) (i : ℕ) where
   -- the record and the refusal, case by case

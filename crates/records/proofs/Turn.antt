@@ -11,12 +11,12 @@ use Rattle.bits.specs.Sets.{union}
 use Rattle.bits.proofs.Bits.{bit-setOf}
 use Rattle.automata.specs.declared.Head.{Head}
 use Rattle.automata.specs.Loaded.{cell}
-use Rattle.records.specs.declared.adding.Record.{Record}
-use Rattle.records.specs.declared.adding.Step.{Step}
-use Rattle.records.specs.declared.adding.Step.the-variants.{On, Stop}
+use Rattle.adding.specs.declared.Record.{Record}
+use Rattle.adding.specs.declared.Step.{Step}
+use Rattle.adding.specs.declared.Step.the-variants.{On, Stop}
 use Rattle.records.specs.Spelled.{byte, kindI, kindF, kindT, among, started, startIn, named, statesIn, tableOf, acceptingIn}
 use Rattle.records.specs.Faults.{again, fault}
-use Rattle.records.specs.Steps.{recordAt, initialStep, acceptingStep, transitionStep, stepBy, transitionTable, tableBy}
+use Rattle.adding.specs.Steps.{recordAt, initialStep, acceptingStep, transitionStep, stepBy, transitionTable, tableBy}
 use Rattle.records.proofs.Says.{Says, initial, accepting, transition, wrong, says}
 use Rattle.records.proofs.Added.{table-at, accepting-other, table-other, accepting-more, table-more}
 

@@ -1,29 +1,16 @@
 -- A file of four-byte records, and the automaton that its bytes spell out (document 01, "Files"). Assumes nothing.
 use mathlib.Core.Bool.{Bool, false, _&&_, cond}
 use mathlib.Core.List.{List}
-use Prim.Native.Nat.{ℕ, zero, suc, _+_, _*_, _/_, max}
+use Prim.Native.Nat.{ℕ, zero, suc, _/_, max}
 use lib.Dec.{eqb}
-use lib.ListN.{length, getD}
+use lib.ListN.{length}
 use Rattle.bits.specs.Bits.{setOf, any, values}
 use Rattle.acceptance.specs.Lasso.{Aut}
-
--- byte j of record i
-abbrev pub byte : List ℕ → ℕ → ℕ → ℕ
-byte s i j = getD s (4 * i + j) 0
+pub use Rattle.adding.specs.Bytes.{byte, kindI, kindF, kindT}
 
 -- how many whole records there are
 abbrev pub count : List ℕ → ℕ
 count s = length s / 4
-
--- the letters `I`, `F` and `T`
-abbrev pub kindI : ℕ
-kindI = 0x49
-
-abbrev pub kindF : ℕ
-kindF = 0x46
-
-abbrev pub kindT : ℕ
-kindT = 0x54
 
 -- record i consists of these four bytes
 unfoldable pub isRecord : List ℕ → ℕ → ℕ → ℕ → ℕ → ℕ → Bool

@@ -1,5 +1,5 @@
 //! Record files: read in one pass to a loaded automaton, or refused at the first fault.
-use crate::adding::Step;
+use adding::Step;
 use automata::Head;
 ghost use mathlib.Core.List.{[]};
 ghost use mathlib.Core.Path.{_≡_};
@@ -9,8 +9,6 @@ ghost use Rattle.records.specs.Spelled.{tableOf};
 ghost use Rattle.records.specs.Faults.{goodRecords, judged, refusalOf};
 ghost use Rattle.records.specs.Narrow.{narrowRow, narrow};
 ghost use Rattle.records.specs.BadRecord.{fileOf, badFile, badStart, badRecord};
-
-mod adding;
 
 // A refusal as document 01 tells it: its number, which file, word or table it is about, and its place there.
 pub struct Refusal {

@@ -5,7 +5,7 @@ use native.Mathlib.Omega.{arith}
 use native.Mathlib.Nat.{div-mul-le-self}
 use lib.ListN.{length}
 use borrow.Author.Needs.{needs}
-use Rattle.records.specs.Steps.{Sized}
+use Rattle.adding.specs.Steps.{Sized}
 use Rattle.records.proofs.Says.{record-sized}
 use Rattle.records.proofs.Reading.{Reading, begun, odd, no-start, good-file, Turned, turned, went-on, stopped}
 use Rattle.records.proofs.read.Statement.{statement}

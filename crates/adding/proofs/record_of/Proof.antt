@@ -1,10 +1,10 @@
--- `adding::record_of` meets its contract: each kind goes to its own function. Assumes nothing.
+-- `record_of` meets its contract: each kind goes to its own function. Assumes nothing.
 use mathlib.Core.Logic.{inl, inr}
 use borrow.Author.Tests.{ne-eqb}
 use borrow.Author.Needs.{needs}
-use Rattle.records.specs.Steps.{recordOf}
-use Rattle.records.proofs.adding.record_of.Statement.{statement}
-use Rattle.records.proofs.adding.record_of.Tie as tie
+use Rattle.adding.specs.Steps.{recordOf}
+use Rattle.adding.proofs.record_of.Statement.{statement}
+use Rattle.adding.proofs.record_of.Tie as tie
 
 transition-requires : tie.Need-transition-requires
 transition-requires c κs = search needs
@@ -13,7 +13,7 @@ single-requires : tie.Need-single-requires
 single-requires c κs = c .match .keys2
 
 returns : tie.Need-returns
-returns c = cc
+returns c = rw (c .before .match .keys1) (c .transition .ensures)
 
 returns-2 : tie.Need-returns-2
 returns-2 c = search needs

@@ -1,9 +1,9 @@
--- `adding::record_at` meets its contract. Assumes nothing.
+-- `record_at` meets its contract. Assumes nothing.
 use mathlib.Core.Path.{_∙_}
 use native.Mathlib.Nat.{add-zero}
 use borrow.Author.Needs.{needs}
-use Rattle.records.proofs.adding.record_at.Statement.{statement}
-use Rattle.records.proofs.adding.record_at.Tie as tie
+use Rattle.adding.proofs.record_at.Statement.{statement}
+use Rattle.adding.proofs.record_at.Tie as tie
 
 mul-at : tie.Need-mul-at
 mul-at c = search needs

@@ -1,9 +1,9 @@
--- `adding::add` meets its contract: each kind of record by its own function. Assumes nothing.
+-- `add` meets its contract: each kind of record by its own function. Assumes nothing.
 use mathlib.Core.Path.{refl, subst}
 use borrow.Author.Needs.{needs}
-use Rattle.records.specs.Steps.{Sized}
-use Rattle.records.proofs.adding.add.Statement.{statement}
-use Rattle.records.proofs.adding.add.Tie as tie
+use Rattle.adding.specs.Steps.{Sized}
+use Rattle.adding.proofs.add.Statement.{statement}
+use Rattle.adding.proofs.add.Tie as tie
 
 enum-known-r : tie.Need-enum-known-r
 enum-known-r c = search needs

@@ -1,8 +1,8 @@
--- `adding::transition` meets its contract: each test is one of the definition's. Assumes nothing.
+-- `transition` meets its contract: each test is one of the definition's. Assumes nothing.
 use borrow.Author.Tests.{lt-ltb, le-ltb}
-use Rattle.records.specs.Steps.{recordOf}
-use Rattle.records.proofs.adding.transition.Statement.{statement}
-use Rattle.records.proofs.adding.transition.Tie as tie
+use Rattle.adding.specs.Steps.{recordOf}
+use Rattle.adding.proofs.transition.Statement.{statement}
+use Rattle.adding.proofs.transition.Tie as tie
 
 returns : tie.Need-returns
 unfolding recordOf

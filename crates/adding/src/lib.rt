@@ -6,8 +6,8 @@ ghost use mathlib.Core.Path.{_≡_};
 ghost use Prim.Native.Nat.{_+_, _*_, _^_, _<_, max};
 ghost use lib.ListN.{length};
 ghost use Rattle.bits.specs.Sets.{union};
-ghost use Rattle.records.specs.Spelled.{kindI, kindF, kindT};
-ghost use Rattle.records.specs.Steps.{recordOf, recordAt, Sized, initialStep, acceptingStep, transitionStep, transitionTable, stepBy, tableBy, stopOf};
+ghost use Rattle.adding.specs.Bytes.{kindI, kindF, kindT};
+ghost use Rattle.adding.specs.Steps.{recordOf, recordAt, Sized, initialStep, acceptingStep, transitionStep, transitionTable, stepBy, tableBy, stopOf};
 
 // A transition.
 pub struct Edge {

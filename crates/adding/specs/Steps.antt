@@ -8,12 +8,12 @@ use Rattle.bits.specs.Bits.{bit}
 use Rattle.bits.specs.Sets.{union}
 use Rattle.automata.specs.declared.Head.{Head}
 use Rattle.automata.specs.Loaded.{cell}
-use Rattle.records.specs.declared.adding.Edge.{Edge}
-use Rattle.records.specs.declared.adding.Record.{Record}
-use Rattle.records.specs.declared.adding.Record.the-variants.{Initial, Accepting, Transition, Wrong}
-use Rattle.records.specs.declared.adding.Step.{Step}
-use Rattle.records.specs.declared.adding.Step.the-variants.{On, Stop}
-use Rattle.records.specs.Spelled.{byte, kindI, kindF, kindT}
+use Rattle.adding.specs.declared.Edge.{Edge}
+use Rattle.adding.specs.declared.Record.{Record}
+use Rattle.adding.specs.declared.Record.the-variants.{Initial, Accepting, Transition, Wrong}
+use Rattle.adding.specs.declared.Step.{Step}
+use Rattle.adding.specs.declared.Step.the-variants.{On, Stop}
+use Rattle.adding.specs.Bytes.{byte, kindI, kindF, kindT}
 
 -- what four bytes say, or the refusal among 2, 3 and 4 that they meet
 unfoldable pub recordOf : ℕ → ℕ → ℕ → ℕ → ℕ → Record

@@ -1,4 +1,4 @@
--- `adding::with` meets its contract. Assumes nothing.
+-- `with` meets its contract. Assumes nothing.
 use mathlib.Core.Path.{ap, _∙_}
 use Prim.Native.Nat.{ℕ, _^_, _%_, _<_}
 use native.Mathlib.Nat.{one-mul, mod-eq-of-lt}
@@ -6,8 +6,8 @@ use lib.Bits.{bitOr}
 use lib.Pow.{pow-lt}
 use borrow.Author.Needs.{needs}
 use Rattle.bits.proofs.Sets.{union-or}
-use Rattle.records.proofs.adding.with.Statement.{statement}
-use Rattle.records.proofs.adding.with.Tie as tie
+use Rattle.adding.proofs.with.Statement.{statement}
+use Rattle.adding.proofs.with.Tie as tie
 
 cast-result : tie.Need-cast-result
 cast-result c = search needs

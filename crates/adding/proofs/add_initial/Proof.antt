@@ -1,10 +1,10 @@
--- `adding::add_initial` meets its contract. Assumes nothing.
+-- `add_initial` meets its contract. Assumes nothing.
 use native.Mathlib.Numerals.{add-one}
 use borrow.Author.Tests.{eq-eqb, ne-eqb}
 use borrow.Author.Needs.{needs}
-use Rattle.records.specs.Steps.{initialStep}
-use Rattle.records.proofs.adding.add_initial.Statement.{statement}
-use Rattle.records.proofs.adding.add_initial.Tie as tie
+use Rattle.adding.specs.Steps.{initialStep}
+use Rattle.adding.proofs.add_initial.Statement.{statement}
+use Rattle.adding.proofs.add_initial.Tie as tie
 
 returns : tie.Need-returns
 unfolding initialStep

@@ -1,14 +1,14 @@
--- `adding::single` meets its contract: each test is one of the definition's. Assumes nothing.
+-- `single` meets its contract: each test is one of the definition's. Assumes nothing.
 use mathlib.Core.Bool.{true, false, _||_}
 use mathlib.Core.Logic.{_⊎_, inl, inr}
 use mathlib.Core.Path.{_≡_, ap}
 use Prim.Native.Nat.{ℕ}
 use lib.Dec.{eqb}
 use borrow.Author.Tests.{lt-ltb, le-ltb, eq-eqb, ne-eqb}
-use Rattle.records.specs.Spelled.{kindI, kindF, kindT}
-use Rattle.records.specs.Steps.{recordOf}
-use Rattle.records.proofs.adding.single.Statement.{statement}
-use Rattle.records.proofs.adding.single.Tie as tie
+use Rattle.adding.specs.Bytes.{kindI, kindF, kindT}
+use Rattle.adding.specs.Steps.{recordOf}
+use Rattle.adding.proofs.single.Statement.{statement}
+use Rattle.adding.proofs.single.Tie as tie
 
 -- an I or an F is no T
 no-T : {kind : ℕ} → (kind ≡ kindF) ⊎ (kind ≡ kindI) → eqb kind kindT ≡ false

@@ -1,10 +1,10 @@
--- `adding::add_accepting` meets its contract. Assumes nothing.
+-- `add_accepting` meets its contract. Assumes nothing.
 use mathlib.Core.Path.{sym, _∙_}
 use native.Mathlib.Numerals.{add-one}
 use borrow.Author.Needs.{needs}
-use Rattle.records.specs.Steps.{acceptingStep}
-use Rattle.records.proofs.adding.add_accepting.Statement.{statement}
-use Rattle.records.proofs.adding.add_accepting.Tie as tie
+use Rattle.adding.specs.Steps.{acceptingStep}
+use Rattle.adding.proofs.add_accepting.Statement.{statement}
+use Rattle.adding.proofs.add_accepting.Tie as tie
 
 has16-requires : tie.Need-has16-requires
 has16-requires c κs = search needs

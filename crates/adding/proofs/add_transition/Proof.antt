@@ -1,11 +1,11 @@
--- `adding::add_transition` meets its contract. Assumes nothing.
+-- `add_transition` meets its contract. Assumes nothing.
 use mathlib.Core.Path.{sym, _∙_}
 use native.Mathlib.Numerals.{add-one}
 use borrow.Author.Needs.{needs}
 use Rattle.automata.specs.Loaded.{cell}
-use Rattle.records.specs.Steps.{transitionStep, transitionTable, cellWith}
-use Rattle.records.proofs.adding.add_transition.Statement.{statement}
-use Rattle.records.proofs.adding.add_transition.Tie as tie
+use Rattle.adding.specs.Steps.{transitionStep, transitionTable, cellWith}
+use Rattle.adding.proofs.add_transition.Statement.{statement}
+use Rattle.adding.proofs.add_transition.Tie as tie
 
 cast-x : tie.Need-cast-x
 cast-x c = search needs

@@ -1,0 +1,2 @@
+-- What the contracts rule out.
+pub mod Wrong
