@@ -1,14 +1,10 @@
 -- Where the walk is made: the files are good, S and P are in range and the buffers long enough; and so the two automata are within the limits of the
 -- walk and numbered by their states. Assumes nothing.
-use mathlib.Core.Bool.{Bool, true, false, _&&_}
+use mathlib.Core.Bool.{Bool, true, false}
 use mathlib.Core.List.{List}
 use mathlib.Core.Path.{_≡_, refl, sym, subst}
-use Prim.Native.Nat.{ℕ, _*_, _≤_}
+use Prim.Native.Nat.{ℕ, _≤_}
 use native.Mathlib.Omega.{arith}
-use borrow.Author.Tests.{ltb-true, leb-true}
-use lib.Dec.{ltb, leb}
-use lib.ListN.{length}
-use Rattle.bits.proofs.Truth.{and-left, and-right}
 use Rattle.acceptance.specs.Contexts.{Small}
 use Rattle.acceptance.proofs.Targets.{small-more}
 use Rattle.growth.specs.Numbered.{Bounded, Numbered}
