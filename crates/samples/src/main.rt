@@ -7,16 +7,25 @@ fn text(bytes: &[u8]) {
     io::write_all(STDOUT_FILENO, bytes);
 }
 
-fn wide(letter: u8) -> u64 {
-    letter as u64
+// A space, and a number in decimal.
+fn number(n: u64) {
+    text(b" ");
+    io::print_decimal(STDOUT_FILENO, n);
 }
 
-fn word(name: &[u8], letters: &[u8]) {
+fn letter(x: u8) {
+    number(x as u64);
+}
+
+// The first n letters of an output.
+fn word(name: &[u8], output: &[u8], n: usize) {
+    if n > output.len() {
+        return;
+    }
     text(name);
     let mut i = 0;
-    while i < letters.len() {
-        text(b" ");
-        io::print_decimal(STDOUT_FILENO, wide(letters[i]));
+    while i < n {
+        letter(output[i]);
         i += 1;
     }
     text(b"\n");
@@ -25,8 +34,7 @@ fn word(name: &[u8], letters: &[u8]) {
 fn numbers(row: [u64; 9]) {
     let mut i = 0usize;
     while i < 9 {
-        text(b" ");
-        io::print_decimal(STDOUT_FILENO, row[i]);
+        number(row[i]);
         i += 1;
     }
     text(b"\n");
@@ -34,34 +42,27 @@ fn numbers(row: [u64; 9]) {
 
 // The words that an answer shows are the first letters of the outputs; none are where the period's length is 0.
 fn shown(row: [u64; 9], stem: &[u8], period: &[u8]) {
-    let s = row[7] as usize;
-    let p = row[8] as usize;
-    if p == 0 {
+    if row[8] == 0 {
         return;
     }
-    if s <= stem.len() {
-        word(b" stem:", &stem[0..s]);
-    }
-    if p <= period.len() {
-        word(b" period:", &period[0..p]);
-    }
+    word(b" stem:", stem, row[7] as usize);
+    word(b" period:", period, row[8] as usize);
 }
 
-// One sample, with a stem output that the caller lends and other buffers that are long enough for every S and P here.
-fn decide(
-    name: &[u8],
+// The nine numbers of an answer, with tables that are long enough for every S and P here.
+fn decided(
     model: &[u8],
     rule: &[u8],
     stem_room: usize,
     period_room: usize,
     stem: &mut [u8],
-) {
+    period: &mut [u8],
+) -> [u64; 9] {
     let mut smallest = [0u32; 4097];
     let mut largest = [0u32; 4097];
     let mut links = [0u32; 65536];
     let mut contexts = [0u64; 131072];
-    let mut period = [0u8; 65536];
-    let answer = inclusion::decide(
+    inclusion::numbers(inclusion::decide(
         model,
         rule,
         stem_room,
@@ -71,95 +72,132 @@ fn decide(
         &mut links,
         &mut contexts,
         stem,
-        &mut period,
-    );
-    let row = inclusion::numbers(answer);
+        period,
+    ))
+}
+
+// One sample, with a stem output that the caller lends.
+fn sample(
+    name: &[u8],
+    model: &[u8],
+    rule: &[u8],
+    stem_room: usize,
+    period_room: usize,
+    stem: &mut [u8],
+) {
+    let mut period = io::large_buffer();
+    let row = decided(model, rule, stem_room, period_room, stem, &mut period);
     text(name);
     numbers(row);
     shown(row, stem, &period);
 }
 
-fn lasso(name: &[u8], records: &[u8], stem: &[u8], period: &[u8]) {
-    text(name);
-    match membership::test(records, stem, period) {
+// One sample, with a stem output that is long enough.
+fn decide(name: &[u8], model: &[u8], rule: &[u8], stem_room: usize, period_room: usize) {
+    let mut stem = [0u8; 4097];
+    sample(name, model, rule, stem_room, period_room, &mut stem);
+}
+
+fn told(answer: Tested) {
+    match answer {
         Tested::Accepted => text(b" accepted\n"),
         Tested::Rejected => text(b" rejected\n"),
         Tested::Refused(_) => text(b" refused\n"),
     }
 }
 
-// M1 to M5: verdicts.
-fn verdicts() {
-    let all = b"I\0\0\0F\0\0\0T\0\0\0T\0\x01\0";
-    let often = b"I\0\0\0F\x01\0\0T\0\0\x01T\0\x01\0T\x01\0\x01T\x01\x01\0";
-    let start = b"I\0\0\0";
-    let mut stem = [0u8; 4097];
-    decide(b"M1", all, often, 4096, 2048, &mut stem);
-    decide(b"M2", often, all, 4096, 2048, &mut stem);
-    decide(b"M3", often, often, 4096, 2048, &mut stem);
-    decide(b"M4", b"I\0\0\0T\0\0\0", start, 4096, 2048, &mut stem);
-    decide(
-        b"M5",
-        b"I\0\0\0T\0\0\0F\0\0\0",
-        start,
+// A lasso of an empty stem and a period of one letter.
+fn lasso(name: &[u8], records: &[u8]) {
+    text(name);
+    told(membership::test(records, b"", b"\0"));
+}
+
+// M1 to M3: verdicts.
+fn verdicts(all: &[u8], often: &[u8]) {
+    decide(b"M1", all, often, 4096, 2048);
+    decide(b"M2", often, all, 4096, 2048);
+    decide(b"M3", often, often, 4096, 2048);
+}
+
+// One sample under a rule that accepts nothing.
+fn under_nothing(name: &[u8], model: &[u8]) {
+    decide(name, model, b"I\0\0\0", 4096, 2048);
+}
+
+// M4 and M5: no accepting state, and one.
+fn accepting() {
+    under_nothing(b"M4", b"I\0\0\0T\0\0\0");
+    under_nothing(b"M5", b"I\0\0\0T\0\0\0F\0\0\0");
+}
+
+// M6 and M7: room.
+fn room(all: &[u8], often: &[u8]) {
+    decide(b"M6 S=1", all, often, 1, 2048);
+    decide(b"M6 S=2", all, often, 2, 2048);
+    decide(b"M7 P=1", all, often, 4096, 1);
+    decide(b"M7 P=2", all, often, 4096, 2);
+}
+
+// M13: a stem output that is too short.
+fn short(all: &[u8], often: &[u8]) {
+    let mut stem = [0u8; 4095];
+    sample(
+        b"M13 stem output of S - 1",
+        all,
+        often,
         4096,
         2048,
         &mut stem,
     );
 }
 
-// M6 and M7: room.
-fn room() {
-    let all = b"I\0\0\0F\0\0\0T\0\0\0T\0\x01\0";
-    let often = b"I\0\0\0F\x01\0\0T\0\0\x01T\0\x01\0T\x01\0\x01T\x01\x01\0";
-    let mut stem = [0u8; 4097];
-    decide(b"M6 S=1", all, often, 1, 2048, &mut stem);
-    decide(b"M6 S=2", all, often, 2, 2048, &mut stem);
-    decide(b"M7 P=1", all, often, 4096, 1, &mut stem);
-    decide(b"M7 P=2", all, often, 4096, 2, &mut stem);
-}
-
-// M13: room out of range, and an output that is too short.
-fn limits() {
-    let all = b"I\0\0\0F\0\0\0T\0\0\0T\0\x01\0";
-    let often = b"I\0\0\0F\x01\0\0T\0\0\x01T\0\x01\0T\x01\0\x01T\x01\x01\0";
-    let mut stem = [0u8; 4097];
-    let mut short = [0u8; 4095];
-    decide(b"M13 S=0", all, often, 0, 2048, &mut stem);
-    decide(b"M13 S=4097", all, often, 4097, 2048, &mut stem);
-    decide(b"M13 P=65536", all, often, 4096, 65536, &mut stem);
-    decide(
-        b"M13 stem output of S - 1",
-        all,
-        often,
-        4096,
-        2048,
-        &mut short,
-    );
+// M13: room out of range, and too little lent.
+fn limits(all: &[u8], often: &[u8]) {
+    decide(b"M13 S=0", all, often, 0, 2048);
+    decide(b"M13 S=4097", all, often, 4097, 2048);
+    decide(b"M13 P=65536", all, often, 4096, 65536);
+    short(all, often);
 }
 
 // M8 and M9: lassos.
 fn lassos() {
-    lasso(b"M8", b"I\0\0\0F\x01\0\0T\0\0\x01T\x01\0\0", b"", b"\0");
-    lasso(b"M9", b"I\0\0\0F\0\0\0T\0\0\x01T\x01\0\x01", b"", b"\0");
+    lasso(b"M8", b"I\0\0\0F\x01\0\0T\0\0\x01T\x01\0\0");
+    lasso(b"M9", b"I\0\0\0F\0\0\0T\0\0\x01T\x01\0\x01");
 }
 
-// M10 to M12: files.
-fn files() {
+// M10: a model's largest state.
+fn model_states() {
+    under_nothing(b"M10 I 15", b"I\x0f\0\0");
+    under_nothing(b"M10 I 16", b"I\x10\0\0");
+}
+
+// M11: a rule's largest state.
+fn rule_states() {
     let start = b"I\0\0\0";
-    let mut stem = [0u8; 4097];
-    decide(b"M10 I 15", b"I\x0f\0\0", start, 4096, 2048, &mut stem);
-    decide(b"M10 I 16", b"I\x10\0\0", start, 4096, 2048, &mut stem);
-    decide(b"M11 I 7", start, b"I\x07\0\0", 4096, 2048, &mut stem);
-    decide(b"M11 I 8", start, b"I\x08\0\0", 4096, 2048, &mut stem);
-    decide(b"M12 empty", b"", start, 4096, 2048, &mut stem);
-    decide(b"M12 three bytes", b"I\0\0", start, 4096, 2048, &mut stem);
+    decide(b"M11 I 7", start, b"I\x07\0\0", 4096, 2048);
+    decide(b"M11 I 8", start, b"I\x08\0\0", 4096, 2048);
+}
+
+// M12: files without a whole record.
+fn cut_short() {
+    under_nothing(b"M12 empty", b"");
+    under_nothing(b"M12 three bytes", b"I\0\0");
+}
+
+// The samples of M1's pair of files, and M4 and M5 between them.
+fn pair() {
+    let all = b"I\0\0\0F\0\0\0T\0\0\0T\0\x01\0";
+    let often = b"I\0\0\0F\x01\0\0T\0\0\x01T\0\x01\0T\x01\0\x01T\x01\x01\0";
+    verdicts(all, often);
+    accepting();
+    room(all, often);
+    limits(all, often);
 }
 
 fn main() {
-    verdicts();
-    room();
-    limits();
+    pair();
     lassos();
-    files();
+    model_states();
+    rule_states();
+    cut_short();
 }

@@ -3,9 +3,13 @@ use inclusion::Answer;
 use libc::STDOUT_FILENO;
 use records::Refusal;
 use search::Counts;
+ghost use Prim.Native.Nat.{_≤_};
+ghost use lib.ListN.{length};
 
 // As many bytes of a file as fit; none of a file that cannot be opened.
-fn read_file(path: &[u8], buffer: &mut [u8]) -> usize {
+fn read_file(path: &[u8], buffer: &mut [u8]) -> usize
+    ensures { λ r. ⌜ r ≤ length (now (buffer .exit)) ⌝ }
+{
     let file = os::open_read(path);
     if file < 0 {
         return 0;
@@ -81,17 +85,7 @@ fn print(answer: Answer, stem: &[u8], period: &[u8]) {
     }
 }
 
-fn main() {
-    let mut model = [0u8; 16456];
-    let mut rule = [0u8; 16456];
-    let a = read_file(b"model.rec", &mut model);
-    let b = read_file(b"rule.rec", &mut rule);
-    if a > 16456 {
-        return;
-    }
-    if b > 16456 {
-        return;
-    }
+fn decide(model: &[u8], rule: &[u8]) {
     let mut smallest = [0u32; 4096];
     let mut largest = [0u32; 4096];
     let mut links = [0u32; 2048];
@@ -99,8 +93,8 @@ fn main() {
     let mut stem = [0u8; 4096];
     let mut period = [0u8; 2048];
     let answer = inclusion::decide(
-        &model[0..a],
-        &rule[0..b],
+        model,
+        rule,
         4096,
         2048,
         &mut smallest,
@@ -111,4 +105,12 @@ fn main() {
         &mut period,
     );
     print(answer, &stem, &period);
+}
+
+fn main() {
+    let mut model = [0u8; 16456];
+    let mut rule = [0u8; 16456];
+    let a = read_file(b"model.rec", &mut model);
+    let b = read_file(b"rule.rec", &mut rule);
+    decide(&model[0..a], &rule[0..b]);
 }

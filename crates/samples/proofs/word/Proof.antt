@@ -1,15 +1,18 @@
 -- `word` meets its contract. Assumes nothing.
 use Prim.Native.Nat.{_≤_, _-_}
-use lib.ListN.{length}
 use borrow.Author.Needs.{needs}
+use lib.ListN.{length}
 use Rattle.samples.proofs.word.Statement.{statement}
 use Rattle.samples.proofs.word.Tie as tie
 
 abbrev Inv-loop : tie.InvT-loop
-Inv-loop name letters i₀ t4 t5 i = i ≤ length letters
+Inv-loop name output n i₀ t5 i = n ≤ length output
 
 abbrev μ-loop : tie.MeasureT-loop
-μ-loop name letters i₀ t4 t5 i = length letters - i
+μ-loop name output n i₀ t5 i = n - i
+
+returns : tie.Need-returns Inv-loop μ-loop
+returns c = search needs
 
 text-requires : tie.Need-text-requires Inv-loop μ-loop
 text-requires c κs = search needs
@@ -17,20 +20,11 @@ text-requires c κs = search needs
 loop-holds : tie.Need-loop-holds Inv-loop μ-loop
 loop-holds c = search needs
 
-slice-aggregate-text : tie.Need-slice-aggregate-text Inv-loop μ-loop
-slice-aggregate-text c = search needs
+shared-slice-read-letter : tie.Need-shared-slice-read-letter Inv-loop μ-loop
+shared-slice-read-letter c = search needs
 
-text-requires-2 : tie.Need-text-requires-2 Inv-loop μ-loop
-text-requires-2 c κs = search needs
-
-shared-slice-read-wide : tie.Need-shared-slice-read-wide Inv-loop μ-loop
-shared-slice-read-wide c = search needs
-
-wide-requires : tie.Need-wide-requires Inv-loop μ-loop
-wide-requires c κs = search needs
-
-print-decimal-requires : tie.Need-print-decimal-requires Inv-loop μ-loop
-print-decimal-requires c κs = search needs
+letter-requires : tie.Need-letter-requires Inv-loop μ-loop
+letter-requires c κs = search needs
 
 add-i : tie.Need-add-i Inv-loop μ-loop
 add-i c = search needs
@@ -41,14 +35,14 @@ loop-less c = search needs
 loop-again : tie.Need-loop-again Inv-loop μ-loop
 loop-again c = search needs
 
-slice-aggregate-text-2 : tie.Need-slice-aggregate-text-2 Inv-loop μ-loop
-slice-aggregate-text-2 c = search needs
+slice-aggregate-text : tie.Need-slice-aggregate-text Inv-loop μ-loop
+slice-aggregate-text c = search needs
 
-text-requires-3 : tie.Need-text-requires-3 Inv-loop μ-loop
-text-requires-3 c κs = search needs
+text-requires-2 : tie.Need-text-requires-2 Inv-loop μ-loop
+text-requires-2 c κs = search needs
 
-returns : tie.Need-returns Inv-loop μ-loop
-returns c = search needs
+returns-2 : tie.Need-returns-2 Inv-loop μ-loop
+returns-2 c = search needs
 
 pub word-spec : {M : Type 1} → statement M
 word-spec =
@@ -56,16 +50,14 @@ word-spec =
     (tie.spec
     Inv-loop
     μ-loop
+    returns
     text-requires
     loop-holds
-    slice-aggregate-text
-    text-requires-2
-    shared-slice-read-wide
-    wide-requires
-    print-decimal-requires
+    shared-slice-read-letter
+    letter-requires
     add-i
     loop-less
     loop-again
-    slice-aggregate-text-2
-    text-requires-3
-    returns)
+    slice-aggregate-text
+    text-requires-2
+    returns-2)

@@ -1,5 +1,6 @@
-use borrow.Author.Needs.{needs}
+-- `print_word` meets its contract. Assumes nothing.
 use Prim.Native.Nat.{_≤_, _-_}
+use borrow.Author.Needs.{needs}
 use lib.ListN.{length}
 use Rattle.wickerbell.proofs.print_word.Statement.{statement}
 use Rattle.wickerbell.proofs.print_word.Tie as tie
