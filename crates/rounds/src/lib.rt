@@ -190,7 +190,7 @@ pub fn all(
     requires { ⌜ (1 ≤ room) × (room ≤ 65535) × (room ≤ length (now links)) × (2 * room ≤ length (now contexts)) ⌝ }
     ensures { λ r. ⌜ Answers (course (autOf (cell (now (model .entry))) «model_head») (autOf (cell (now (rule .entry))) «rule_head») (now (stems .entry)) room (rounds (autOf (cell (now (model .entry))) «model_head») (autOf (cell (now (rule .entry))) «rule_head») (now (largest .entry))) 0 0) r (now (links .exit)) ⌝ }
 {
-    let mut scratch = [0u16; 65551];
+    let mut scratch = [0u16; 131102];
     let mut p = 0;
     let mut t = 0;
     let mut s: u8 = 0;
