@@ -1,0 +1,76 @@
+-- `all` meets its contract. Assumes nothing.
+use native.Mathlib.Omega.{arith}
+use borrow.Author.Needs.{needs}
+use Rattle.rounds.proofs.all.Statement.{statement}
+use Rattle.rounds.proofs.all.Tie as tie
+
+slice-aggregate-each-state : tie.Need-slice-aggregate-each-state
+slice-aggregate-each-state c = search needs
+
+each-state-requires : tie.Need-each-state-requires
+each-state-requires c κs =
+    let start = c .before .before .before .before .before .before .before .before in (
+      record {
+        stems = start .pre .0 .0;
+        some = start .pre .1 .0;
+        short = start .pre .1 .1;
+        links-fit = start .pre .1 .2;
+        contexts-fit = start .pre .1 .3;
+        scratch-fits = omega (arith, c .before .before .before .if1 .taken);
+        scratch-short = omega arith;
+        few = omega arith;
+      },
+      start .pre .0 .1,
+    )
+
+same-length : tie.Need-same-length
+same-length c = search needs
+
+same-length-2 : tie.Need-same-length-2
+same-length-2 c = search needs
+
+returns : tie.Need-returns
+returns c = c .before .before .before .before .before .each-state .ensures
+
+slice-aggregate-each-state-2 : tie.Need-slice-aggregate-each-state-2
+slice-aggregate-each-state-2 c = search needs
+
+each-state-requires-2 : tie.Need-each-state-requires-2
+each-state-requires-2 c κs =
+    let start = c .before .before .before .before .before .before .before .before in (
+      record {
+        stems = start .pre .0 .0;
+        some = start .pre .1 .0;
+        short = start .pre .1 .1;
+        links-fit = start .pre .1 .2;
+        contexts-fit = start .pre .1 .3;
+        scratch-fits = omega (arith, start .pre .1 .1);
+        scratch-short = omega arith;
+        few = omega arith;
+      },
+      start .pre .0 .1,
+    )
+
+same-length-3 : tie.Need-same-length-3
+same-length-3 c = search needs
+
+same-length-4 : tie.Need-same-length-4
+same-length-4 c = search needs
+
+returns-2 : tie.Need-returns-2
+returns-2 c = c .before .before .before .before .before .each-state2 .ensures
+
+pub all-spec : {M : Type 1} → statement M
+all-spec =
+    tie.close
+    (tie.spec
+    slice-aggregate-each-state
+    each-state-requires
+    same-length
+    same-length-2
+    returns
+    slice-aggregate-each-state-2
+    each-state-requires-2
+    same-length-3
+    same-length-4
+    returns-2)
