@@ -241,7 +241,7 @@ pub fn all(
     ensures { λ r. ⌜ Answers (course (autOf (cell (now (model .entry))) «model_head») (autOf (cell (now (rule .entry))) «rule_head») (now (stems .entry)) room (rounds (autOf (cell (now (model .entry))) «model_head») (autOf (cell (now (rule .entry))) «rule_head») (now (largest .entry))) 0 0) r (now (links .exit)) ⌝ }
 {
     if room <= 2048 {
-        let mut small = [0u16; 4128];
+        let mut small = [0u16; 8224];
         return each_state(
             stems,
             largest,
