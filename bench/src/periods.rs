@@ -1,4 +1,5 @@
-//! Period tables. Only the minimal contexts at each state of the model are looked at, those that cover often first.
+//! Period tables. Only the minimal contexts at each state of the model are looked at, those that cover often first, and before
+//! them the one that decided the last candidate of the same kind.
 
 use crate::contexts::{rows, Context};
 use crate::rule::{Rule, Target};
@@ -14,24 +15,52 @@ pub struct Room<'a> {
     pub room: usize,
 }
 
+/// A context that covered a candidate, or was appended for it, and at which state of which table.
+#[derive(Clone, Copy)]
+struct Guess {
+    stamp: u64,
+    context: Context,
+}
+
+/// Candidates are of as many kinds, by context and state.
+const KINDS: usize = 4_096;
+
 /// By state of the model, the contexts of the table on the rows that count, less those that a later one is inside of.
-#[derive(Default)]
 pub struct Minimal {
     at: [Vec<Context>; 16],
+    guesses: Vec<Guess>,
+    /// Above the stamps of all guesses for earlier tables.
+    stamp: u64,
+}
+
+impl Default for Minimal {
+    fn default() -> Minimal {
+        let none = Guess { stamp: 0, context: Context { reach: 0, through: 0 } };
+        Minimal { at: Default::default(), guesses: vec![none; KINDS], stamp: 16 }
+    }
 }
 
 impl Minimal {
     fn clear(&mut self) {
         self.at.iter_mut().for_each(Vec::clear);
+        self.stamp += 16;
     }
 
     #[inline]
     fn covers(&mut self, state: usize, candidate: Context, rows: u64) -> bool {
         let (reach, through) = (rows & !candidate.reach, rows & !candidate.through);
+        let inside = |entry: &Context| entry.reach & reach == 0 && entry.through & through == 0;
+        let guess = &mut self.guesses[kind(candidate, state, rows)];
+        let stamp = self.stamp + state as u64;
+        if guess.stamp == stamp && inside(&guess.context) {
+            return true;
+        }
         let chain = &mut self.at[state];
-        let Some(found) = chain.iter().position(|entry| entry.reach & reach == 0 && entry.through & through == 0) else {
+        let Some(found) = chain.iter().position(inside) else {
+            *guess = Guess { stamp, context: candidate };
             return false;
         };
+        *guess = Guess { stamp, context: chain[found] };
         // Nearer to the front each time, so that the ones that cover often are met early.
         chain.swap(found, found / 2);
         true
@@ -46,6 +75,12 @@ impl Minimal {
         }
         chain.push(entry);
     }
+}
+
+#[inline]
+fn kind(candidate: Context, state: usize, rows: u64) -> usize {
+    let mixed = (candidate.reach & rows) ^ (candidate.through & rows).rotate_left(1);
+    ((mixed.wrapping_mul(0x9E37_79B9_7F4A_7C15) >> 48) as usize ^ state << 4) % KINDS
 }
 
 /// Grows the period table of (s, w) into the lent tables. Its length and whether one entry too many was needed.

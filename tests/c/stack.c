@@ -1,5 +1,5 @@
 /* How much stack the library needs: each function is called on a thread whose stack is filled with a pattern beforehand, with the
- * largest room. Ends with 1 if a call needs more than 256 KiB, a quarter of what include/wickerbell.h asks for. */
+ * largest room. Ends with 1 if a call needs more than 512 KiB, half of what include/wickerbell.h asks for. */
 #define _DEFAULT_SOURCE
 #include <pthread.h>
 #include <stdio.h>
@@ -7,7 +7,7 @@
 #include <string.h>
 #include "wickerbell.h"
 
-enum { S = 4096, P = 65535, STACK = 1 << 20, MOST = STACK / 4, PATTERN = 0xa5 };
+enum { S = 4096, P = 65535, STACK = 1 << 20, MOST = STACK / 2, PATTERN = 0xa5 };
 
 static uint32_t smallest[S], largest[S], links[P];
 static uint64_t contexts[2 * P], row[WICKERBELL_ROW_LENGTH];

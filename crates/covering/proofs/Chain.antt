@@ -77,6 +77,9 @@ module _ (covers : Period → Period → Bool) where
     enough = c .enough;
   }
 
+  pub chained-beyond : {t gone : List Period} {chains : List ℕ} (w v : ℕ) → Chained covers t gone chains → 16 + length t ≤ w → Chained covers t gone (set chains w v)
+  chained-beyond w v c l = record { at = λ q h. chain-set w v (c .at q h) (λ e. omega arith) (λ j m s e. omega arith) }
+
   -- ---- an entry more
 
   module _ (t : List Period) (c : Period) where

@@ -7,3 +7,4 @@ pub mod Trail
 pub mod Between
 pub mod Scanning
 pub mod Covering
+pub mod Guesses

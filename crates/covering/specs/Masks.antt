@@ -1,11 +1,13 @@
 -- Covering by masks: what an entry must not have, found once for a candidate. Assumes nothing.
 use mathlib.Core.Bool.{Bool, _&&_}
+use mathlib.Core.List.{List}
 use Prim.Native.Nat.{ℕ, _-_, _^_}
 use lib.Bits.{bitAnd}
-use lib.Dec.{eqb}
+use lib.Dec.{eqb, ltb, leb}
+use lib.ListN.{getD}
 use Rattle.bits.specs.Fields.{linkState}
 use Rattle.acceptance.specs.Contexts.{Context}
-use Rattle.covering.specs.Entries.{Period}
+use Rattle.covering.specs.Entries.{Period, contextIn}
 
 -- what c lacks of the pairs `rows`
 unfoldable pub lacking : ℕ → Context → Context
@@ -26,3 +28,8 @@ holds c d = eqb (bitAnd (d .reach) (2 ^ 64 - 1 - c .reach)) 0 && eqb (bitAnd (d 
 -- an entry covers a candidate at the same state of A if it has nothing that the candidate lacks of the rows
 unfoldable pub covers : ℕ → Period → Period → Bool
 covers rows old new = eqb (linkState (old .link)) (linkState (new .link)) && apart (old .context) (lacking rows (new .context))
+
+-- an entry, by one more than its index, is one of the first n, at q, and has nothing of `lacks`
+unfoldable pub guessed : ℕ → List ℕ → List ℕ → (next q : ℕ) → Context → Bool
+guessed n links contexts next q lacks =
+    (ltb 0 next && leb next n) && (eqb (linkState (getD links (next - 1) 0)) q && apart (contextIn contexts (next - 1)) lacks)

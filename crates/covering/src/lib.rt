@@ -8,7 +8,7 @@ ghost use Rattle.automata.specs.Loaded.{ofPairs};
 ghost use Rattle.growth.specs.Grow.{covered};
 ghost use Rattle.growth.specs.Steps.{only};
 ghost use Rattle.covering.specs.Entries.{contextIn, held};
-ghost use Rattle.covering.specs.Masks.{lacking, having, apart, holds, covers};
+ghost use Rattle.covering.specs.Masks.{lacking, having, apart, holds, covers, guessed};
 ghost use Rattle.covering.specs.Chained.{Chained, toFront};
 use automata::Pairs8;
 use bits::entries;
@@ -82,9 +82,10 @@ fn pass(contexts: &[u64], chains: &mut [u16], place: usize, next: usize, having:
     next + 15
 }
 
-// Whether one of the first n entries covers a candidate: the chain of the candidate's state decides it. An entry that the candidate is contained in leaves
-// the chain: the candidate, or the entry that covers it, covers what that entry covers. `links` and `n` are not read: they say which entries are meant.
-pub fn covered(
+// Whether one of the first n entries covers a candidate: the chain of the candidate's state decides it, and the entry that covers comes to its front. An
+// entry that the candidate is contained in leaves the chain: the candidate, or the entry that covers it, covers what that entry covers. `links` and `n` are
+// not read: they say which entries are meant.
+fn scan(
     links: &[u32],
     contexts: &[u64],
     chains: &mut [u16],
@@ -111,5 +112,77 @@ pub fn covered(
         place = pass(contexts, chains, place, next, having);
         next = chains[place] as usize;
     }
+    false
+}
+
+// Which of so many guesses is for a context at a state. Whichever it is, no answer depends on it: contexts should only fall apart well.
+fn guess(having: Pairs8, state: u8, guesses: usize) -> usize
+    requires { ⌜ (state < 16) × (1 ≤ guesses) × (guesses ≤ 65551) ⌝ }
+    ensures { λ r. ⌜ r < guesses ⌝ }
+{
+    let reach = (having.reach % 4294967296) * 1013904223 + (having.reach >> 32) * 805459861;
+    let through = (having.through % 4294967296) * 927492323 + (having.through >> 32) * 634603861;
+    let spread = (reach + through + state as u64 * 11400714819323) >> 16;
+    ((spread % 4294967296 * guesses as u64) >> 32) as usize
+}
+
+// Whether an entry that is guessed, by one more than its index, is one of the first n and covers a candidate at the state.
+fn guessed(
+    links: &[u32],
+    contexts: &[u64],
+    n: usize,
+    next: usize,
+    state: u8,
+    missing: Pairs8,
+) -> bool
+    requires { ⌜ (n ≤ length (now links)) × (2 * n ≤ length (now contexts)) ⌝ }
+    ensures { λ r. ⌜ r ≡ guessed n (now (links .entry)) (now (contexts .entry)) next state (ofPairs missing) ⌝ }
+{
+    if next == 0 {
+        return false;
+    }
+    if next > n {
+        return false;
+    }
+    if entries::link_state(links[next - 1]) != state {
+        return false;
+    }
+    apart(contexts, next - 1, missing)
+}
+
+// Whether one of the first n entries covers a candidate. The second half of `chains` has guesses, each the entry that was found, or is to be appended, for
+// the last context that fell to it: the same contexts come again and again, and then there is nothing to scan.
+pub fn covered(
+    links: &[u32],
+    contexts: &[u64],
+    chains: &mut [u16],
+    n: usize,
+    link: u32,
+    c: Pairs8,
+    rows: u64,
+) -> bool
+    requires { ⌜ (n ≤ length (now links)) × (2 * n ≤ length (now contexts)) × (2 * (16 + n) ≤ length (now chains)) × (length (now chains) ≤ 131102) ⌝ }
+    requires { ⌜ Chained (covers rows) (held n (now links) (now contexts)) [] (now chains) ⌝ }
+    ensures { λ r. ⌜ r ≡ covered (covers rows) (held n (now (links .entry)) (now (contexts .entry))) (record { link = link; context = ofPairs c }) ⌝ }
+    ensures { λ r. ⌜ Chained (covers rows) (held n (now (links .entry)) (now (contexts .entry))) (only (not r) (record { link = link; context = ofPairs c })) (now (chains .exit)) ⌝ }
+{
+    let state = entries::link_state(link);
+    let half = chains.len() / 2;
+    let place = half + guess(having(rows, c), state, half);
+    if guessed(
+        links,
+        contexts,
+        n,
+        chains[place] as usize,
+        state,
+        lacking(rows, c),
+    ) {
+        return true;
+    }
+    if scan(links, contexts, chains, n, link, c, rows) {
+        chains[place] = chains[state as usize];
+        return true;
+    }
+    chains[place] = ((n + 1) % 65536) as u16;
     false
 }

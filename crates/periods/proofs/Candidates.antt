@@ -15,7 +15,7 @@ use Rattle.acceptance.specs.Contexts.{Context, idle, longer}
 use Rattle.acceptance.proofs.Contexts.{Fits, longer-fits}
 use Rattle.growth.specs.Grow.{Outcome, ended, full, table}
 use Rattle.growth.specs.Steps.{gather, only, steps}
-use Rattle.growth.proofs.Steps.{gather-same, steps-same, steps-mem}
+use Rattle.growth.proofs.Steps.{steps-same, steps-mem}
 use Rattle.growth.proofs.Built.{Inherited}
 use Rattle.growth.proofs.Carried.{mapped, table-map}
 use Rattle.automata.specs.declared.Head.{Head}
@@ -26,6 +26,7 @@ use Rattle.periods.specs.Periods.{periodFirst, periodNext, periodTable}
 use Rattle.covering.specs.Masks.{covers}
 use Rattle.periods.specs.Candidates.{atState, atLetter, candidates, ofEntry}
 use Rattle.covering.proofs.Masks.{covers-contained}
+use Rattle.periods.proofs.Loop.{gather-none}
 
 -- ---- letter by letter
 
@@ -36,13 +37,11 @@ unfolding atState atLetter cell
 move-letter model B p parent c x e =
     ap (λ (d : Context). gather 0 16 (λ q. only (bit (cell model x p) q) (record { link = periodLink q x parent; context = d }))) e
 
--- where the letter leads nowhere there is none, whatever the context
-pub move-none : (model : List (List ℕ)) (B : Aut) (p parent : ℕ) (c : Context) (x : ℕ) (d : Pairs8) → getD (getD model x []) p 0 ≡ 0
-    → gather 0 16 (atState (record { successors = getD (getD model x []) p 0; letter = x; parent = parent; context = d })) ≡ atLetter model B p parent c x
-unfolding atState atLetter cell
-move-none model B p parent c x d e =
-    gather-same 0 16 (λ q. only (bit (cell model x p) q) (record { link = periodLink q x parent; context = ofPairs d }))
-    (λ q. only (bit (cell model x p) q) (record { link = periodLink q x parent; context = longer 8 B c x })) (λ q. rw (e, bit-zero))
+-- where the letter leads nowhere there is none
+pub letter-none : (model : List (List ℕ)) (B : Aut) (p parent : ℕ) (c : Context) (x : ℕ) → getD (getD model x []) p 0 ≡ 0 → atLetter model B p parent c x ≡ []
+unfolding atLetter cell
+letter-none model B p parent c x e =
+    gather-none (λ q. only (bit (cell model x p) q) (record { link = periodLink q x parent; context = longer 8 B c x })) 0 16 (λ q l. rw (e, bit-zero))
 
 -- the word of an entry has the entry's
 pub word-entry : (model : List (List ℕ)) (B : Aut) (e : Period) {p parent i : ℕ} {c : Context} → p ≡ linkState (e .link) → parent ≡ i → c ≡ e .context

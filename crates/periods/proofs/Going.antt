@@ -48,6 +48,7 @@ ready-on {covers} {room} {n} {links} {contexts} ready cs {m = m} {chains′ = ch
         links-fit = omega (arith, ready .roomy .links-fit);
         contexts-fit = omega (arith, ready .roomy .contexts-fit);
         chains-fit = omega (arith, ready .roomy .chains-fit);
+        chains-short = omega (arith, ready .roomy .chains-short);
       };
       chained = subst (λ (t : List Period). Chained covers t [] chains′) (sym (held-done (offer covers room (held n links contexts) cs) e g)) (g .chained m e);
     }

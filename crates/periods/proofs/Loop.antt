@@ -13,9 +13,10 @@ use Rattle.growth.specs.Steps.{gather}
 use Rattle.growth.proofs.Offering.{offer-none, gather-on, gather-done}
 use Rattle.covering.specs.Entries.{Period, held}
 use Rattle.periods.specs.Growing.{Ready, Grows}
-use Rattle.periods.proofs.Going.{Going, going, going-end, going-full, going-on}
+use Rattle.periods.proofs.Going.{Going, going, going-as, going-end, going-full, going-on}
 
-gather-none : (f : ℕ → List Period) (i k : ℕ) → ((j : ℕ) → i ≤ j → f j ≡ []) → gather i k f ≡ []
+-- no candidate at all
+pub gather-none : (f : ℕ → List Period) (i k : ℕ) → ((j : ℕ) → i ≤ j → f j ≡ []) → gather i k f ≡ []
 unfolding gather
 gather-none f i zero h = refl
 gather-none f i (suc k) h = ap₂ _++_ (h i (omega arith)) (gather-none f (suc i) k (λ j l. h j (omega arith)))
@@ -49,6 +50,11 @@ module _ (covers : Period → Period → Bool) (room : ℕ) (f : ℕ → List Pe
       split =
           gather-on covers room f k i (held n links contexts) h
           ∙ ap (λ (c : List Period). onward (offer covers room (held n links contexts) c) (from (i + 1))) (sym same)
+
+      -- i has none
+      pub loop-skip : cs ≡ [] → Going covers room o (from (i + 1)) links₀ links contexts₀ contexts chains₀ chains n
+      loop-skip none =
+          going-as at (from (i + 1)) (sym (split ∙ ap (λ (c : List Period). onward (offer covers room (held n links contexts) c) (from (i + 1))) none ∙ ap (λ (t : Outcome Period). onward t (from (i + 1))) (offer-none covers room (held n links contexts))))
 
       pub loop-full : {r : Growth} {links′ contexts′ chains′ : List ℕ} → r ≡ Full → Grows covers (offer covers room (held n links contexts) cs) r links links′ contexts contexts′ chains′
           → Grows covers o Full links₀ links′ contexts₀ contexts′ chains′

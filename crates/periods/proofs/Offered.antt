@@ -16,7 +16,7 @@ use Rattle.growth.specs.Lent.{growthOf}
 use Rattle.growth.specs.Steps.{only}
 use Rattle.automata.specs.Loaded.{ofPairs}
 use Rattle.growth.proofs.Grown.{append-room, append-full}
-use Rattle.growth.proofs.Offering.{offer-none, offer-covered}
+use Rattle.growth.proofs.Offering.{offer-covered}
 use Rattle.covering.specs.Entries.{Period, held}
 use Rattle.covering.specs.Chained.{Chained}
 use Rattle.periods.specs.Growing.{Ready, Grows, Appends}
@@ -68,8 +68,3 @@ module _ (covers : Period → Period → Bool) {room n : ℕ} {links contexts ch
         → Grows covers (offer covers room (held n links contexts) (atState by q)) r links links′ contexts contexts′ chains′
     unfolding atState
     offered-some p e g = rw (p, ← e) g
-
-    -- it is not
-    pub offered-none : bit (by .successors) q ≡ false → Grows covers (offer covers room (held n links contexts) (atState by q)) (Ended n) links links contexts contexts chains
-    unfolding atState
-    offered-none p = rw (p, offer-none covers room (held n links contexts)) (unchanged (ready .roomy) refl (ap Ended (sym (held-length links contexts n))) (ready .chained))

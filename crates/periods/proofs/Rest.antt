@@ -2,12 +2,13 @@
 use mathlib.Core.Path.{_≡_, refl, sym, ap, _∙_}
 use mathlib.Core.Bool.{Bool, true, false}
 use mathlib.Core.List.{[]}
-use Prim.Native.Nat.{ℕ, _+_, _-_, _/_, _^_, _≤_, _<_}
+use Prim.Native.Nat.{ℕ, _+_, _-_, _/_, _%_, _^_, _≤_, _<_}
+use native.Mathlib.Nat.{div-one}
 use native.Mathlib.Omega.{arith}
 use borrow.Author.Tests.{ltb-true, ltb-false}
 use lib.Dec.{ltb}
-use Rattle.bits.specs.Bits.{bit}
-use Rattle.bits.proofs.Bits.{bit-shr, bit-above, bit-zero, bit-ext}
+use Rattle.bits.specs.Bits.{digit, bit, weight}
+use Rattle.bits.proofs.Bits.{bit-from, bit-shr, bit-above, bit-zero, bit-ext}
 use Rattle.periods.specs.Candidates.{atState}
 use Rattle.periods.specs.declared.table.Move.{Move}
 
@@ -32,6 +33,23 @@ module _ {x q rest : ℕ} (r : Rest x q rest) where
       at false e =
           let zero : rest ≡ 0 = bit-ext 16 rest 0 (r .short) (omega arith) (λ j h. r .bits j ∙ bit-above x 16 (q + j) (r .small) (omega (arith, ltb-false q 16 e)) ∙ sym (bit-zero j)) in
           absurd (omega (arith, some, zero))
+
+  -- q is one of them exactly if `rest` is odd
+  first : (b : Bool) → rest % 2 ≡ weight b → bit x q ≡ b
+  unfolding digit
+  first b e =
+      let here : q ≡ q + 0 = omega arith in
+      let unit : rest / 2 ^ 0 % 2 ≡ rest % 2 = ap (λ (y : ℕ). y % 2) (div-one rest) in
+      ap (bit x) here ∙ sym (r .bits 0) ∙ bit-from rest 0 b (unit ∙ e)
+
+  pub rest-odd : (rest % 2 ≡ 0 → ⊥) → bit x q ≡ true
+  unfolding weight
+  rest-odd h = first true (omega arith)
+
+-- no candidate at q
+pub rest-even : (by : Move) {q rest : ℕ} → Rest (by .successors) q rest → rest % 2 ≡ 0 → atState by q ≡ []
+unfolding atState weight
+rest-even by r e = rw (first r false e) refl
 
 -- no candidate from q on
 pub rest-none : (by : Move) {q rest : ℕ} → Rest (by .successors) q rest → rest ≡ 0 → (j : ℕ) → q ≤ j → atState by j ≡ []

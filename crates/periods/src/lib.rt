@@ -29,7 +29,7 @@ pub fn grow(
     rule: &[[u8; 8]; 16],
     rule_head: Head,
 ) -> Growth
-    requires { ⌜ (room ≤ 65535) × (room ≤ length (now links)) × (2 * room ≤ length (now contexts)) × (16 + room ≤ length (now chains)) ⌝ }
+    requires { ⌜ (room ≤ 65535) × (room ≤ length (now links)) × (2 * room ≤ length (now contexts)) × (2 * (16 + room) ≤ length (now chains)) × (length (now chains) ≤ 131102) ⌝ }
     requires { ⌜ (state < 16) × (bit («model_head» .accepting) state ≡ true) ⌝ }
     ensures { λ r. ⌜ Leaves (periodTable (autOf (cell (now (model .entry))) «model_head») (autOf (cell (now (rule .entry))) «rule_head») state target room) r
         (now (links .entry)) (now (links .exit)) (now (contexts .entry)) (now (contexts .exit)) ⌝ }

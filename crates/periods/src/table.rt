@@ -1,7 +1,9 @@
 //! Candidates offered to the period table: one, those of a letter, those of an entry.
 ghost use mathlib.Core.Path.{_≡_};
+ghost use mathlib.Core.Bool.{true};
 ghost use Prim.Native.Nat.{_+_, _*_, _<_, _≤_};
 ghost use lib.ListN.{length, getD};
+ghost use Rattle.bits.specs.Bits.{bit};
 ghost use Rattle.bits.specs.Fields.{linkState};
 ghost use Rattle.growth.specs.Grow.{append, offer, table};
 ghost use Rattle.growth.specs.Steps.{gather};
@@ -15,7 +17,6 @@ use automata::Head;
 use automata::Pairs8;
 use automata::eight;
 use bits::entries;
-use bits::members;
 use growth::Growth;
 
 // A word that is made longer: the state of A that it leads to, its index in the table, and its context.
@@ -71,7 +72,7 @@ fn append(
     Growth::Ended(n + 1)
 }
 
-// The candidate at the state q, if q is a successor: dropped where it is covered, and else appended.
+// The candidate at the successor q: dropped where it is covered, and else appended.
 fn offer_at(
     links: &mut [u32],
     contexts: &mut [u64],
@@ -82,14 +83,11 @@ fn offer_at(
     by: Move,
     q: u8,
 ) -> Growth
-    requires { ⌜ (by .letter < 16) × (q < 16) ⌝ }
+    requires { ⌜ (by .letter < 16) × (q < 16) × (bit (by .successors) q ≡ true) ⌝ }
     requires { ⌜ Ready (covers rows) room n (now links) (now contexts) (now chains) ⌝ }
     ensures { λ r. ⌜ Grows (covers rows) (offer (covers rows) room (held n (now (links .entry)) (now (contexts .entry))) (atState by q)) r
         (now (links .entry)) (now (links .exit)) (now (contexts .entry)) (now (contexts .exit)) (now (chains .exit)) ⌝ }
 {
-    if !members::has16(by.successors, q as usize) {
-        return Growth::Ended(n);
-    }
     let link = entries::period_link(q, by.letter, by.parent);
     if covering::covered(links, contexts, chains, n, link, by.context, rows) {
         return Growth::Ended(n);
@@ -116,6 +114,11 @@ fn by_letter(
     let mut q = 0u8;
     let mut rest = by.successors;
     while rest != 0 {
+        if rest % 2 == 0 {
+            q += 1;
+            rest = rest >> 1;
+            continue;
+        }
         let Growth::Ended(more) = offer_at(links, contexts, chains, room, count, rows, by, q) else {
             return Growth::Full;
         };
@@ -126,32 +129,21 @@ fn by_letter(
     Growth::Ended(count)
 }
 
-// A word by one letter: its context is made longer once for all successors, and not at all where there are none.
+// A word by one letter: its context is made longer once for all successors.
 fn step(model: &[[u16; 16]; 16], rule: &[[u8; 8]; 16], head: Head, word: Word, x: u8) -> Move
     requires { ⌜ (word .state < 16) × (x < 16) ⌝ }
     ensures { λ r. ⌜ r .letter ≡ x ⌝ }
     ensures { λ r. ⌜ gather 0 16 (atState r) ≡ atLetter (now (model .entry)) (autOf (cell (now (rule .entry))) head) (word .state) (word .parent) (ofPairs (word .context)) x ⌝ }
 {
-    let state = word.state as usize;
-    let successors = model[x as usize][state];
-    let context = word.context;
-    if successors == 0 {
-        return Move {
-            successors,
-            letter: x,
-            parent: word.parent,
-            context,
-        };
-    }
     Move {
-        successors,
+        successors: model[x as usize][word.state as usize],
         letter: x,
         parent: word.parent,
-        context: eight::longer(rule, head, context, x as usize),
+        context: eight::longer(rule, head, word.context, x as usize),
     }
 }
 
-// The candidates of a word, letters rising.
+// The candidates of a word, letters rising; those that lead nowhere are passed over.
 fn expand(
     links: &mut [u32],
     contexts: &mut [u64],
@@ -173,6 +165,10 @@ fn expand(
     let mut count = n;
     let mut x = 0u8;
     while x < 16 {
+        if model[x as usize][word.state as usize] == 0 {
+            x += 1;
+            continue;
+        }
         let by = step(model, rule, head, word, x);
         let Growth::Ended(more) = by_letter(links, contexts, chains, room, count, rows, by) else {
             return Growth::Full;

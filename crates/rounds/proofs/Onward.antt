@@ -58,6 +58,7 @@ ready-on h l c s m = record {
   links-fit = omega (arith, h .links-fit);
   contexts-fit = omega (arith, h .contexts-fit);
   scratch-fits = omega (arith, h .scratch-fits);
+  scratch-short = omega (arith, h .scratch-short);
   few = m;
 }
 

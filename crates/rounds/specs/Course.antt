@@ -97,5 +97,6 @@ pub record Ready (room tests : ℕ) (u links contexts scratch : List ℕ) : Type
   pub short : room ≤ 65535
   pub links-fit : room ≤ length links
   pub contexts-fit : 2 * room ≤ length contexts
-  pub scratch-fits : 16 + room ≤ length scratch
+  pub scratch-fits : 2 * (16 + room) ≤ length scratch
+  pub scratch-short : length scratch ≤ 131102
   pub few : tests ≤ 2 ^ 50

@@ -175,22 +175,22 @@ fn at_state(
 
 // The rounds of each state, rising. The scratch serves within a round, first the growth of its table and then its tests: what it holds at the end of
 // either does not matter.
-pub fn all(
+fn each_state(
     stems: &[u32],
     largest: &[u32],
     links: &mut [u32],
     contexts: &mut [u64],
+    scratch: &mut [u16],
     room: usize,
     model: &[[u16; 16]; 16],
     model_head: Head,
     rule: &[[u8; 8]; 16],
     rule_head: Head,
 ) -> Rounds
-    requires { ⌜ (length (now stems) ≤ 4096) × (length (now largest) ≤ 4096) ⌝ }
-    requires { ⌜ (1 ≤ room) × (room ≤ 65535) × (room ≤ length (now links)) × (2 * room ≤ length (now contexts)) ⌝ }
+    requires { ⌜ Ready room 0 (now stems) (now links) (now contexts) (now scratch) ⌝ }
+    requires { ⌜ length (now largest) ≤ 4096 ⌝ }
     ensures { λ r. ⌜ Answers (course (autOf (cell (now (model .entry))) «model_head») (autOf (cell (now (rule .entry))) «rule_head») (now (stems .entry)) room (rounds (autOf (cell (now (model .entry))) «model_head») (autOf (cell (now (rule .entry))) «rule_head») (now (largest .entry))) 0 0) r (now (links .exit)) ⌝ }
 {
-    let mut scratch = [0u16; 65551];
     let mut p = 0;
     let mut t = 0;
     let mut s: u8 = 0;
@@ -200,7 +200,7 @@ pub fn all(
             largest,
             links,
             contexts,
-            &mut scratch,
+            scratch,
             room,
             s,
             model,
@@ -222,4 +222,50 @@ pub fn all(
         s += 1;
     }
     Rounds::Through { p, t }
+}
+
+// The rounds of each state, in a scratch for as many entries as there is room for: most calls need a small one, which takes no time to set up.
+pub fn all(
+    stems: &[u32],
+    largest: &[u32],
+    links: &mut [u32],
+    contexts: &mut [u64],
+    room: usize,
+    model: &[[u16; 16]; 16],
+    model_head: Head,
+    rule: &[[u8; 8]; 16],
+    rule_head: Head,
+) -> Rounds
+    requires { ⌜ (length (now stems) ≤ 4096) × (length (now largest) ≤ 4096) ⌝ }
+    requires { ⌜ (1 ≤ room) × (room ≤ 65535) × (room ≤ length (now links)) × (2 * room ≤ length (now contexts)) ⌝ }
+    ensures { λ r. ⌜ Answers (course (autOf (cell (now (model .entry))) «model_head») (autOf (cell (now (rule .entry))) «rule_head») (now (stems .entry)) room (rounds (autOf (cell (now (model .entry))) «model_head») (autOf (cell (now (rule .entry))) «rule_head») (now (largest .entry))) 0 0) r (now (links .exit)) ⌝ }
+{
+    if room <= 2048 {
+        let mut small = [0u16; 8224];
+        return each_state(
+            stems,
+            largest,
+            links,
+            contexts,
+            &mut small,
+            room,
+            model,
+            model_head,
+            rule,
+            rule_head,
+        );
+    }
+    let mut large = [0u16; 131102];
+    each_state(
+        stems,
+        largest,
+        links,
+        contexts,
+        &mut large,
+        room,
+        model,
+        model_head,
+        rule,
+        rule_head,
+    )
 }

@@ -1,122 +1,117 @@
--- `scan::covered` meets its contract. Assumes nothing.
-use mathlib.Core.Path.{_≡_, sym, _∙_}
+-- `covered` meets its contract. Assumes nothing.
+use mathlib.Core.Path.{sym, _∙_}
+use Prim.Native.Nat.{_+_, _/_}
 use native.Mathlib.Omega.{arith}
+use denote.Ref.{now}
 use lib.ListN.{length}
-use Rattle.automata.specs.Loaded.{ofPairs}
-use Rattle.covering.specs.Entries.{held}
-use Rattle.covering.proofs.Trail.{following}
-use Rattle.covering.proofs.Covering.{Masked, masked-start, masked-end, masked-place, masked-next, next-low, masked-hit, masked-on}
+use Rattle.covering.proofs.Entries.{held-length}
+use Rattle.covering.proofs.Chain.{chained-beyond}
+use Rattle.covering.proofs.Guesses.{guessed-covers}
 use borrow.Author.Needs.{needs}
 use Rattle.covering.proofs.covered.Statement.{statement}
 use Rattle.covering.proofs.covered.Tie as tie
 
-abbrev Inv-loop : tie.InvT-loop
-Inv-loop links contexts chains₀ n link rows missing having state place₀ next₀ chains place next = (length chains ≡ length chains₀) × Masked rows n link links contexts (ofPairs missing) (ofPairs having) chains place next
-
-abbrev μ-loop : tie.MeasureT-loop
-μ-loop links contexts chains₀ n link rows missing having state place₀ next₀ chains place next = following (length (held n links contexts)) chains place
-
-lacking-requires : tie.Need-lacking-requires Inv-loop μ-loop
-lacking-requires c κs = search needs
-
-having-requires : tie.Need-having-requires Inv-loop μ-loop
-having-requires c κs = search needs
-
-link-state-requires : tie.Need-link-state-requires Inv-loop μ-loop
+link-state-requires : tie.Need-link-state-requires
 link-state-requires c κs = search needs
 
-cast-state : tie.Need-cast-state Inv-loop μ-loop
-cast-state c = search needs
+having-requires : tie.Need-having-requires
+having-requires c κs = search needs
 
-mul-next : tie.Need-mul-next Inv-loop μ-loop
-mul-next c = search needs
+guess-requires : tie.Need-guess-requires
+guess-requires c κs = search needs
 
-slice-read-next : tie.Need-slice-read-next Inv-loop μ-loop
-slice-read-next c = search needs
+add-place : tie.Need-add-place
+add-place c = search needs
 
-cast-next : tie.Need-cast-next Inv-loop μ-loop
-cast-next c = omega (arith, c .slice-known2 .given (c .before .link-state .result))
+mul-guessed : tie.Need-mul-guessed
+mul-guessed c = search needs
 
-loop-holds : tie.Need-loop-holds Inv-loop μ-loop
-loop-holds c = (search needs, masked-start _ _ _ _ _ _ _ (c .before .link-state .ensures) (c .before .before .before .before .before .before .before .pre .1))
+slice-read-guessed : tie.Need-slice-read-guessed
+slice-read-guessed c = search needs
 
-sub-apart : tie.Need-sub-apart Inv-loop μ-loop
-sub-apart c = search needs
+cast-guessed : tie.Need-cast-guessed
+cast-guessed c = omega (arith, c .slice-known2 .given (length (c .before .before .before .before .before .before .before .args .chains .now) / 2 + c .before .guess .result))
 
-apart-requires : tie.Need-apart-requires Inv-loop μ-loop
-apart-requires c κs = omega (arith, next-low _ _ _ _ _ _ (c .before .before .before .before .before .lacking .ensures) (c .before .before .before .before .having .ensures) (c .before .loop .inv .1) (omega arith), c .before .before .before .before .before .before .before .before .before .pre .0 .0)
+lacking-requires : tie.Need-lacking-requires
+lacking-requires c κs = search needs
 
-to-front-requires : tie.Need-to-front-requires Inv-loop μ-loop
-to-front-requires c κs =
-    let place = masked-place _ _ _ _ _ _ (c .before .before .before .before .before .before .before .before .lacking .ensures) (c .before .before .before .before .before .before .before .having .ensures) (c .before .before .before .before .loop .inv .1) in
-    let next = next-low _ _ _ _ _ _ (c .before .before .before .before .before .before .before .before .lacking .ensures) (c .before .before .before .before .before .before .before .having .ensures) (c .before .before .before .before .loop .inv .1) (omega arith) in
-    let is = masked-next _ _ _ _ _ _ (c .before .before .before .before .before .before .before .before .lacking .ensures) (c .before .before .before .before .before .before .before .having .ensures) (c .before .before .before .before .loop .inv .1) in
-    (omega (arith, c .before .before .before .before .before .before .before .before .before .before .before .before .pre .0, c .before .before .before .before .before .before .link-state .ensures), omega (arith, place, c .before .before .before .before .before .before .before .before .before .before .before .before .pre .0, c .before .before .before .before .loop .inv .0), omega (arith, next, is, c .before .before .before .before .before .before .before .before .before .before .before .before .pre .0, c .before .before .before .before .loop .inv .0))
+guessed-requires : tie.Need-guessed-requires
+guessed-requires c κs = search needs
 
-same-length : tie.Need-same-length Inv-loop μ-loop
+returns : tie.Need-returns
+returns c = (sym (guessed-covers _ _ _ _ _ _ _ (c .before .before .before .before .before .before .link-state .ensures) (c .before .before .lacking .ensures) (sym (c .before .guessed .ensures) ∙ c .if1 .taken)), c .before .before .before .before .before .before .before .before .before .before .pre .1)
+
+scan-requires : tie.Need-scan-requires
+scan-requires c κs = search needs
+
+cast-chains : tie.Need-cast-chains
+cast-chains c = search needs
+
+mul-chains : tie.Need-mul-chains
+mul-chains c = search needs
+
+slice-read-chains : tie.Need-slice-read-chains
+slice-read-chains c = search needs
+
+mul-chains-2 : tie.Need-mul-chains-2
+mul-chains-2 c = search needs
+
+slice-write-chains : tie.Need-slice-write-chains
+slice-write-chains c = search needs
+
+same-length : tie.Need-same-length
 same-length c = search needs
 
-returns : tie.Need-returns Inv-loop μ-loop
-returns c =
-    let (is, chained) = masked-hit _ _ _ _ _ _ (c .before .before .before .before .before .before .before .before .before .before .before .lacking .ensures) (c .before .before .before .before .before .before .before .before .before .before .having .ensures) (c .before .before .before .before .before .before .before .loop .inv .1) (omega arith) (omega (arith, c .before .before .before .before .before .before .before .before .before .before .before .before .before .before .before .pre .0, c .before .before .before .before .before .before .before .loop .inv .0)) (sym (c .before .before .before .before .before .apart .ensures) ∙ c .before .before .before .before .if1 .taken) (omega arith) (omega arith) (c .before .before .before .before .before .before .before .before .before .link-state .ensures) (c .before .before .to-front .ensures) in
-    (sym is, chained)
+returns-2 : tie.Need-returns-2
+returns-2 c =
+    let (is, chained) = c .before .before .before .before .scan .ensures in
+    (sym (c .before .if2 .taken) ∙ is, chained-beyond _ _ _ (rw (c .before .if2 .taken) at chained) (omega (arith, c .before .before .before .before .before .before .before .before .before .before .before .before .before .before .before .before .pre .0, held-length (now (c .before .before .before .before .before .before .before .before .before .before .before .before .before .before .before .before .args .links)) (now (c .before .before .before .before .before .before .before .before .before .before .before .before .before .before .before .before .args .contexts)) (c .before .before .before .before .before .before .before .before .before .before .before .before .before .before .before .before .args .n))))
 
-pass-requires : tie.Need-pass-requires Inv-loop μ-loop
-pass-requires c κs =
-    let place = masked-place _ _ _ _ _ _ (c .before .before .before .before .before .before .before .before .lacking .ensures) (c .before .before .before .before .before .before .before .having .ensures) (c .before .before .before .before .loop .inv .1) in
-    let next = next-low _ _ _ _ _ _ (c .before .before .before .before .before .before .before .before .lacking .ensures) (c .before .before .before .before .before .before .before .having .ensures) (c .before .before .before .before .loop .inv .1) (omega arith) in
-    (omega arith, omega (arith, next, c .before .before .before .before .before .before .before .before .before .before .before .before .pre .0), omega (arith, next, c .before .before .before .before .before .before .before .before .before .before .before .before .pre .0), omega (arith, place, c .before .before .before .before .before .before .before .before .before .before .before .before .pre .0, c .before .before .before .before .loop .inv .0), omega (arith, next, c .before .before .before .before .before .before .before .before .before .before .before .before .pre .0, c .before .before .before .before .loop .inv .0))
+add-chains : tie.Need-add-chains
+add-chains c = search needs
 
-mul-next-2 : tie.Need-mul-next-2 Inv-loop μ-loop
-mul-next-2 c = search needs
+cast-chains-2 : tie.Need-cast-chains-2
+cast-chains-2 c = search needs
 
-slice-read-next-2 : tie.Need-slice-read-next-2 Inv-loop μ-loop
-slice-read-next-2 c = search needs
+mul-chains-3 : tie.Need-mul-chains-3
+mul-chains-3 c = search needs
 
-cast-next-2 : tie.Need-cast-next-2 Inv-loop μ-loop
-cast-next-2 c = omega (arith, c .slice-known5 .given (c .before .before .before .pass .result))
+slice-write-chains-2 : tie.Need-slice-write-chains-2
+slice-write-chains-2 c = search needs
 
-loop-less : tie.Need-loop-less Inv-loop μ-loop
-loop-less c = masked-on _ _ _ _ _ _ (c .before .before .before .before .before .before .before .before .before .before .before .before .lacking .ensures) (c .before .before .before .before .before .before .before .before .before .before .before .having .ensures) (c .before .before .before .before .before .before .before .before .loop .inv .1) (omega arith) (omega (arith, c .before .before .before .before .before .before .before .before .before .before .before .before .before .before .before .before .pre .0, c .before .before .before .before .before .before .before .before .loop .inv .0)) (sym (c .before .before .before .before .before .before .apart .ensures) ∙ c .before .before .before .before .before .if1 .left) (λ i. omega (arith, c .before .before .before .before .before .before .before .before .before .before .before .before .before .before .shared-slice-known2 .given i)) (c .before .before .before .pass .ensures .1 .0) (c .before .before .before .pass .ensures .1 .1) .1
-
-loop-again : tie.Need-loop-again Inv-loop μ-loop
-loop-again c = (
-  search needs,
-  record { for = λ d l k. masked-on _ _ _ _ _ d l k (c .before .before .before .before .before .before .before .before .loop .inv .1) (omega arith) (omega (arith, c .before .before .before .before .before .before .before .before .before .before .before .before .before .before .before .before .pre .0, c .before .before .before .before .before .before .before .before .loop .inv .0)) (sym (c .before .before .before .before .before .before .apart .ensures) ∙ c .before .before .before .before .before .if1 .left) (λ i. omega (arith, c .before .before .before .before .before .before .before .before .before .before .before .before .before .before .shared-slice-known2 .given i)) (c .before .before .before .pass .ensures .1 .0) (c .before .before .before .pass .ensures .1 .1) .0 },
-)
-
-same-length-2 : tie.Need-same-length-2 Inv-loop μ-loop
+same-length-2 : tie.Need-same-length-2
 same-length-2 c = search needs
 
-returns-2 : tie.Need-returns-2 Inv-loop μ-loop
-returns-2 c =
-    let (is, chained) = masked-end _ _ _ _ _ _ (c .before .before .before .before .before .lacking .ensures) (c .before .before .before .before .having .ensures) (c .before .loop .inv .1) (c .loop-test .left) in
-    (sym is, chained)
+returns-3 : tie.Need-returns-3
+returns-3 c =
+    let (is, chained) = c .before .before .before .scan .ensures in
+    (sym (c .if2 .left) ∙ is, chained-beyond _ _ _ (rw (c .if2 .left) at chained) (omega (arith, c .before .before .before .before .before .before .before .before .before .before .before .before .before .before .before .pre .0, held-length (now (c .before .before .before .before .before .before .before .before .before .before .before .before .before .before .before .args .links)) (now (c .before .before .before .before .before .before .before .before .before .before .before .before .before .before .before .args .contexts)) (c .before .before .before .before .before .before .before .before .before .before .before .before .before .before .before .args .n))))
 
 pub covered-spec : {M : Type 1} → statement M
 covered-spec =
     tie.close
     (tie.spec
-    Inv-loop
-    μ-loop
-    lacking-requires
-    having-requires
     link-state-requires
-    cast-state
-    mul-next
-    slice-read-next
-    cast-next
-    loop-holds
-    sub-apart
-    apart-requires
-    to-front-requires
-    same-length
+    having-requires
+    guess-requires
+    add-place
+    mul-guessed
+    slice-read-guessed
+    cast-guessed
+    lacking-requires
+    guessed-requires
     returns
-    pass-requires
-    mul-next-2
-    slice-read-next-2
-    cast-next-2
-    loop-less
-    loop-again
+    scan-requires
+    cast-chains
+    mul-chains
+    slice-read-chains
+    mul-chains-2
+    slice-write-chains
+    same-length
+    returns-2
+    add-chains
+    cast-chains-2
+    mul-chains-3
+    slice-write-chains-2
     same-length-2
-    returns-2)
+    returns-3)

@@ -19,7 +19,7 @@ idle-requires : tie.Need-idle-requires
 idle-requires c κs = search needs
 
 build-requires : tie.Need-build-requires
-build-requires c κs = (search needs, ready-none _ (search needs) (search needs) (search needs) (search needs) (search needs))
+build-requires c κs = (search needs, ready-none _ (search needs) (search needs) (search needs) (search needs) (search needs) (search needs))
 
 same-length : tie.Need-same-length
 same-length c = search needs

@@ -1,115 +1,76 @@
--- `all` meets its contract. The loop's invariant: the rounds from s on give what all give, each with few tests, and the tables stay as long as they are. Assumes nothing.
-use Rattle.rounds.proofs.States.{rounds-are, rounds-count}
-use Rattle.rounds.proofs.Onward.{Stopped, Onward, onward-begin, onward-next, onward-stop, onward-done, tests-more}
-use Rattle.rounds.specs.Course.{course, roundsAt}
-use Rattle.walk.specs.Walk.{rounds}
-use Rattle.automata.specs.Loaded.{cell, autOf}
-use Prim.Native.Nat.{_*_, _^_, _-_, _≤_}
+-- `all` meets its contract. Assumes nothing.
 use native.Mathlib.Omega.{arith}
-use mathlib.Core.Path.{_≡_, refl}
-use mathlib.Core.Logic.{⊎-elim}
 use borrow.Author.Needs.{needs}
-use lib.ListN.{length}
 use Rattle.rounds.proofs.all.Statement.{statement}
 use Rattle.rounds.proofs.all.Tie as tie
 
-abbrev Inv-loop : tie.InvT-loop
-Inv-loop stems largest links₀ contexts₀ room model model-head rule rule-head scratch₀ p₀ t₀ s₀ links contexts scratch p t s =
-    (s ≤ 16) × (t ≤ s * 2 ^ 40) × (length links ≡ length links₀) × (length contexts ≡ length contexts₀) × (length scratch ≡ 65551)
-    × Onward (autOf (cell model) model-head) (autOf (cell rule) rule-head) stems room (roundsAt (autOf (cell model) model-head) largest) 16 (course (autOf (cell model) model-head) (autOf (cell rule) rule-head) stems room (rounds (autOf (cell model) model-head) (autOf (cell rule) rule-head) largest) 0 0) s p t
+slice-aggregate-each-state : tie.Need-slice-aggregate-each-state
+slice-aggregate-each-state c = search needs
 
-abbrev μ-loop : tie.MeasureT-loop
-μ-loop stems largest links₀ contexts₀ room model model-head rule rule-head scratch₀ p₀ t₀ s₀ links contexts scratch p t s = 16 - s
-
-loop-holds : tie.Need-loop-holds Inv-loop μ-loop
-loop-holds c =
-    let args = c .before .before .before .before .args in
-    (search needs, search needs, refl, refl, search needs, rw (rounds-are (autOf (cell (args .model .now)) (args .model-head)) (autOf (cell (args .rule .now)) (args .rule-head)) (args .largest .now)) (onward-begin (autOf (cell (args .model .now)) (args .model-head)) (autOf (cell (args .rule .now)) (args .rule-head)) (args .stems .now) (args .room) (roundsAt (autOf (cell (args .model .now)) (args .model-head)) (args .largest .now)) 16 0 0))
-
-slice-aggregate-at-state : tie.Need-slice-aggregate-at-state Inv-loop μ-loop
-slice-aggregate-at-state c = search needs
-
-at-state-requires : tie.Need-at-state-requires Inv-loop μ-loop
-at-state-requires c κs =
-    let start = c .before .before .before .before .before .before .before .before .before in
-    let loop = c .before .before .before .before .loop in (
+each-state-requires : tie.Need-each-state-requires
+each-state-requires c κs =
+    let start = c .before .before .before .before .before .before .before .before in (
       record {
         stems = start .pre .0 .0;
         some = start .pre .1 .0;
         short = start .pre .1 .1;
-        links-fit = omega (arith, loop .inv .2, start .pre .1 .2);
-        contexts-fit = omega (arith, loop .inv .3, start .pre .1 .3);
-        scratch-fits = omega (arith, loop .inv .4, start .pre .1 .1);
-        few = omega (arith, loop .inv .0, loop .inv .1);
+        links-fit = start .pre .1 .2;
+        contexts-fit = start .pre .1 .3;
+        scratch-fits = omega (arith, c .before .before .before .if1 .taken);
+        scratch-short = omega arith;
+        few = omega arith;
       },
-      (c .before .before .before .loop-test .taken, start .pre .0 .1, omega (arith, loop .inv .0, loop .inv .1)),
+      start .pre .0 .1,
     )
 
-enum-known-r : tie.Need-enum-known-r Inv-loop μ-loop
-enum-known-r c = search needs
-
-same-length : tie.Need-same-length Inv-loop μ-loop
+same-length : tie.Need-same-length
 same-length c = search needs
 
-same-length-2 : tie.Need-same-length-2 Inv-loop μ-loop
+same-length-2 : tie.Need-same-length-2
 same-length-2 c = search needs
 
-returns : tie.Need-returns Inv-loop μ-loop
-unfolding Stopped
-returns c =
-    let args = c .before .before .before .before .before .before .before .before .before .before .before .before .before .before .before .before .args in
-    let loop = c .before .before .before .before .before .before .before .before .before .before .before .loop in
-    onward-stop (autOf (cell (args .model .now)) (args .model-head)) (autOf (cell (args .rule .now)) (args .rule-head)) (args .stems .now) (args .room) (roundsAt (autOf (cell (args .model .now)) (args .model-head)) (args .largest .now)) 16 (loop .inv .5) (c .before .before .before .before .before .before .before .before .before .before .loop-test .taken) (c .before .before .before .before .before .before .at-state .ensures) (λ q y e. ⊎-elim (λ z. omega arith) (λ z. omega arith) (rw e at (c .match .keys2)))
+returns : tie.Need-returns
+returns c = c .before .before .before .before .before .each-state .ensures
 
-add-s : tie.Need-add-s Inv-loop μ-loop
-add-s c = omega (arith, c .before .before .before .before .before .before .before .before .before .before .before .before .loop-test .taken)
+slice-aggregate-each-state-2 : tie.Need-slice-aggregate-each-state-2
+slice-aggregate-each-state-2 c = search needs
 
-loop-less : tie.Need-loop-less Inv-loop μ-loop
-loop-less c = omega (arith, c .before .before .before .before .before .before .before .before .before .before .before .before .loop-test .taken)
-
-loop-again : tie.Need-loop-again Inv-loop μ-loop
-loop-again c =
-    let start = c .before .before .before .before .before .before .before .before .before .before .before .before .before .before .before .before .before .before in
-    let args = start .args in
-    let loop = c .before .before .before .before .before .before .before .before .before .before .before .before .before .loop in
-    let state = c .before .before .before .before .before .before .before .before .at-state in
-    let count : length (roundsAt (autOf (cell (args .model .now)) (args .model-head)) (args .largest .now) (loop .s)) ≤ 4096 = omega (arith, rounds-count (autOf (cell (args .model .now)) (args .model-head)) (args .largest .now) (loop .s), start .pre .0 .1) in
-    let more = tests-more (autOf (cell (args .model .now)) (args .model-head)) (autOf (cell (args .rule .now)) (args .rule-head)) (args .stems .now) (args .room) (start .pre .0 .0) (start .pre .1 .1) (roundsAt (autOf (cell (args .model .now)) (args .model-head)) (args .largest .now) (loop .s)) (loop .p) (loop .t) 4096 (state .ensures) (c .before .r .given .1) count in (
-      omega (arith, c .before .before .before .before .before .before .before .before .before .before .before .before .loop-test .taken),
-      omega (arith, more, loop .inv .1),
-      search needs,
-      search needs,
-      search needs,
-      onward-next (autOf (cell (args .model .now)) (args .model-head)) (autOf (cell (args .rule .now)) (args .rule-head)) (args .stems .now) (args .room) (roundsAt (autOf (cell (args .model .now)) (args .model-head)) (args .largest .now)) 16 (loop .inv .5) (c .before .before .before .before .before .before .before .before .before .before .before .before .loop-test .taken) (state .ensures) (c .before .r .given .1),
+each-state-requires-2 : tie.Need-each-state-requires-2
+each-state-requires-2 c κs =
+    let start = c .before .before .before .before .before .before .before .before in (
+      record {
+        stems = start .pre .0 .0;
+        some = start .pre .1 .0;
+        short = start .pre .1 .1;
+        links-fit = start .pre .1 .2;
+        contexts-fit = start .pre .1 .3;
+        scratch-fits = omega (arith, start .pre .1 .1);
+        scratch-short = omega arith;
+        few = omega arith;
+      },
+      start .pre .0 .1,
     )
 
-same-length-3 : tie.Need-same-length-3 Inv-loop μ-loop
+same-length-3 : tie.Need-same-length-3
 same-length-3 c = search needs
 
-same-length-4 : tie.Need-same-length-4 Inv-loop μ-loop
+same-length-4 : tie.Need-same-length-4
 same-length-4 c = search needs
 
-returns-2 : tie.Need-returns-2 Inv-loop μ-loop
-returns-2 c =
-    let args = c .before .before .before .before .before .before .args in
-    onward-done (autOf (cell (args .model .now)) (args .model-head)) (autOf (cell (args .rule .now)) (args .rule-head)) (args .stems .now) (args .room) (roundsAt (autOf (cell (args .model .now)) (args .model-head)) (args .largest .now)) 16 (c .before .loop .inv .5) (c .loop-test .left)
+returns-2 : tie.Need-returns-2
+returns-2 c = c .before .before .before .before .before .each-state2 .ensures
 
 pub all-spec : {M : Type 1} → statement M
 all-spec =
     tie.close
     (tie.spec
-    Inv-loop
-    μ-loop
-    loop-holds
-    slice-aggregate-at-state
-    at-state-requires
-    enum-known-r
+    slice-aggregate-each-state
+    each-state-requires
     same-length
     same-length-2
     returns
-    add-s
-    loop-less
-    loop-again
+    slice-aggregate-each-state-2
+    each-state-requires-2
     same-length-3
     same-length-4
     returns-2)

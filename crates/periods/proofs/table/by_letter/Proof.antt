@@ -7,8 +7,8 @@ use Rattle.covering.specs.Entries.{held}
 use Rattle.covering.specs.Masks.{covers}
 use Rattle.periods.proofs.Going.{Going}
 use Rattle.periods.specs.Candidates.{atState}
-use Rattle.periods.proofs.Rest.{Rest, rest-start, rest-half, rest-low, rest-none}
-use Rattle.periods.proofs.Loop.{from, loop-start, loop-stop, loop-full, loop-on}
+use Rattle.periods.proofs.Rest.{Rest, rest-start, rest-half, rest-low, rest-odd, rest-even, rest-none}
+use Rattle.periods.proofs.Loop.{from, loop-start, loop-stop, loop-skip, loop-full, loop-on}
 use borrow.Author.Needs.{needs}
 use Rattle.periods.proofs.table.by_letter.Statement.{statement}
 use Rattle.periods.proofs.table.by_letter.Tie as tie
@@ -25,8 +25,21 @@ abbrev μ-loop : tie.MeasureT-loop
 loop-holds : tie.Need-loop-holds Inv-loop μ-loop
 loop-holds c = (rest-start _ (omega arith), loop-start _ _ _ _ (c .before .before .before .pre .1))
 
+add-q : tie.Need-add-q Inv-loop μ-loop
+add-q c = omega (arith, rest-low (c .before .before .loop .inv .0) (omega arith))
+
+loop-less : tie.Need-loop-less Inv-loop μ-loop
+loop-less c = search needs
+
+loop-again : tie.Need-loop-again Inv-loop μ-loop
+loop-again c =
+    let loop = c .before .before .loop in
+    (rest-half (loop .inv .0), loop-skip _ _ _ _ _ (loop .inv .1) (rest-low (loop .inv .0) (omega arith)) refl (rest-even _ (loop .inv .0) (c .if1 .taken)))
+
 offer-at-requires : tie.Need-offer-at-requires Inv-loop μ-loop
-offer-at-requires c κs = ((search needs, rest-low (c .before .before .before .before .loop .inv .0) (omega arith)), search needs)
+offer-at-requires c κs =
+    let loop = c .before .before .before .before .before .loop in
+    ((search needs, rest-low (loop .inv .0) (omega arith), rest-odd (loop .inv .0) (c .before .before .before .if1 .left)), search needs)
 
 enum-known-more : tie.Need-enum-known-more Inv-loop μ-loop
 enum-known-more c = search needs
@@ -35,31 +48,31 @@ enum-told : tie.Need-enum-told Inv-loop μ-loop
 enum-told c = search needs
 
 same-length : tie.Need-same-length Inv-loop μ-loop
-same-length c = c .before .before .before .before .before .before .before .before .offer-at .kept .0 ∙ c .before .before .before .before .before .before .before .before .before .before .before .before .before .loop .inv .1 .links-long
+same-length c = c .before .before .before .before .before .before .before .before .offer-at .kept .0 ∙ c .before .before .before .before .before .before .before .before .before .before .before .before .before .before .loop .inv .1 .links-long
 
 same-length-2 : tie.Need-same-length-2 Inv-loop μ-loop
-same-length-2 c = c .before .before .before .before .before .before .before .before .offer-at .kept .1 .0 ∙ c .before .before .before .before .before .before .before .before .before .before .before .before .before .loop .inv .1 .contexts-long
+same-length-2 c = c .before .before .before .before .before .before .before .before .offer-at .kept .1 .0 ∙ c .before .before .before .before .before .before .before .before .before .before .before .before .before .before .loop .inv .1 .contexts-long
 
 same-length-3 : tie.Need-same-length-3 Inv-loop μ-loop
-same-length-3 c = c .before .before .before .before .before .before .before .before .offer-at .kept .1 .1 .0 ∙ c .before .before .before .before .before .before .before .before .before .before .before .before .before .loop .inv .1 .chains-long
+same-length-3 c = c .before .before .before .before .before .before .before .before .offer-at .kept .1 .1 .0 ∙ c .before .before .before .before .before .before .before .before .before .before .before .before .before .before .loop .inv .1 .chains-long
 
 returns : tie.Need-returns Inv-loop μ-loop
 returns c =
-    loop-full _ _ _ _ _ (c .before .before .before .before .before .before .before .before .before .before .before .before .before .loop .inv .1) (rest-low (c .before .before .before .before .before .before .before .before .before .before .before .before .before .loop .inv .0) (omega arith)) refl (c .enum-told .given .1)
-    (c .before .before .before .before .before .before .before .before .offer-at .ensures)
+    let loop = c .before .before .before .before .before .before .before .before .before .before .before .before .before .before .loop in
+    loop-full _ _ _ _ _ (loop .inv .1) (rest-low (loop .inv .0) (omega arith)) refl (c .enum-told .given .1) (c .before .before .before .before .before .before .before .before .offer-at .ensures)
 
-add-q : tie.Need-add-q Inv-loop μ-loop
-add-q c = omega (arith, rest-low (c .before .before .before .before .before .before .before .before .before .before .before .before .before .before .loop .inv .0) (omega arith))
+add-q-2 : tie.Need-add-q-2 Inv-loop μ-loop
+add-q-2 c = omega (arith, rest-low (c .before .before .before .before .before .before .before .before .before .before .before .before .before .before .before .loop .inv .0) (omega arith))
 
-loop-less : tie.Need-loop-less Inv-loop μ-loop
-loop-less c = search needs
+loop-less-2 : tie.Need-loop-less-2 Inv-loop μ-loop
+loop-less-2 c = search needs
 
-loop-again : tie.Need-loop-again Inv-loop μ-loop
-loop-again c =
+loop-again-2 : tie.Need-loop-again-2 Inv-loop μ-loop
+loop-again-2 c =
+    let loop = c .before .before .before .before .before .before .before .before .before .before .before .before .before .before .before .loop in
     let called = c .before .before .before .before .before .before .before .before .before .offer-at in (
-      rest-half (c .before .before .before .before .before .before .before .before .before .before .before .before .before .before .loop .inv .0),
-      loop-on _ _ _ _ _ (c .before .before .before .before .before .before .before .before .before .before .before .before .before .before .loop .inv .1) (rest-low (c .before .before .before .before .before .before .before .before .before .before .before .before .before .before .loop .inv .0) (omega arith)) refl (c .before .more .given .1) (called .ensures)
-          (called .kept .0) (called .kept .1 .0) (called .kept .1 .1 .0),
+      rest-half (loop .inv .0),
+      loop-on _ _ _ _ _ (loop .inv .1) (rest-low (loop .inv .0) (omega arith)) refl (c .before .more .given .1) (called .ensures) (called .kept .0) (called .kept .1 .0) (called .kept .1 .1 .0),
     )
 
 same-length-4 : tie.Need-same-length-4 Inv-loop μ-loop
@@ -81,6 +94,9 @@ by-letter-spec =
     Inv-loop
     μ-loop
     loop-holds
+    add-q
+    loop-less
+    loop-again
     offer-at-requires
     enum-known-more
     enum-told
@@ -88,9 +104,9 @@ by-letter-spec =
     same-length-2
     same-length-3
     returns
-    add-q
-    loop-less
-    loop-again
+    add-q-2
+    loop-less-2
+    loop-again-2
     same-length-4
     same-length-5
     same-length-6
