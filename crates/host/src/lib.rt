@@ -1,7 +1,5 @@
 //! What a host in C calls.
 ghost use mathlib.Core.Path.{_≡_};
-ghost use mathlib.Core.List.{List};
-ghost use Prim.Native.Nat.{ℕ};
 ghost use Rattle.inclusion.specs.Decided.{numberOf};
 ghost use Rattle.membership.specs.Test.{hostNumber};
 ghost use Rattle.host.specs.Lasso.{LassoRight};

@@ -5,10 +5,17 @@ use Prim.Native.Nat.{ℕ, max}
 use lib.ListN.{length}
 use Rattle.acceptance.specs.Lasso.{Aut}
 use Rattle.growth.specs.Grow.{Outcome, ended, full}
-use Rattle.covering.specs.Entries.{Period}
+use Rattle.covering.specs.Entries.{Period, linksOf}
 use Rattle.periods.specs.Periods.{periodTable}
-use Rattle.walk.specs.Walk.{Search, passed, rejected, searchRound, run}
-use Rattle.rounds.specs.Course.{Course, through, lacking, found, along, judged, roundOf, course, finishOf}
+use Rattle.walk.specs.Words.{stemWord, periodWord}
+use Rattle.walk.specs.Walk.{included, shown, periodsFull, Finish, Search, passed, rejected, searchRound, run}
+use Rattle.rounds.specs.Course.{Course, through, lacking, found, along, judged, roundOf, course}
+
+-- what a course comes to, by the words of the tables
+abbrev pub finishOf : List ℕ → Course → Finish
+finishOf u (through p t) = record { verdict = included; periods = p; tests = t }
+finishOf u (lacking p t) = record { verdict = periodsFull; periods = p; tests = t }
+finishOf u (found v i j p t) = record { verdict = shown (stemWord u i) (periodWord (linksOf v) j); periods = p; tests = t }
 
 module _ (A B : Aut) (u : List ℕ) where
   -- ---- one round

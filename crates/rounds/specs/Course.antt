@@ -15,8 +15,7 @@ use Rattle.lassos.specs.declared.Found.{Found as Tested}
 use Rattle.lassos.specs.declared.Found.the-variants.{Passed, Rejected}
 use Rattle.rounds.specs.declared.Rounds.{Rounds}
 use Rattle.rounds.specs.declared.Rounds.the-variants.{Through, Lacking, Found}
-use Rattle.walk.specs.Words.{stemWord, periodWord}
-use Rattle.walk.specs.Walk.{included, shown, periodsFull, Finish, Search, passed, rejected, searchRound, opening}
+use Rattle.walk.specs.Walk.{Search, passed, rejected, searchRound, opening}
 
 -- no lasso was rejected; a period table lacks room; or the lasso of the stem i and the period j of the table v was. With the counts so far: the most
 -- entries that a period table had, and the tests made.
@@ -50,11 +49,6 @@ module _ (A B : Aut) (u : List ℕ) (room : ℕ) where
   course (c ∷ cs) p t = along (roundOf c p t) (course cs)
 
 -- ---- what it comes to
-
-abbrev pub finishOf : List ℕ → Course → Finish
-finishOf u (through p t) = record { verdict = included; periods = p; tests = t }
-finishOf u (lacking p t) = record { verdict = periodsFull; periods = p; tests = t }
-finishOf u (found v i j p t) = record { verdict = shown (stemWord u i) (periodWord (linksOf v) j); periods = p; tests = t }
 
 abbrev pub roundsOf : Course → Rounds
 roundsOf (through p t) = Through p t

@@ -18,12 +18,12 @@ use Rattle.search.specs.declared.Ending.{Ending}
 use Rattle.search.specs.declared.Counts.{Counts}
 use Rattle.walk.specs.Walk.{shown, Finish, Search, passed, rejected, searchRound, rounds, pairsOf, accepts, run}
 use Rattle.walk.specs.Words.{topOf, parentOf, stemWord, periodWord}
-use Rattle.spelling.specs.Chains.{Backward}
-use Rattle.rounds.specs.Course.{Course, through, lacking, found, along, judged, roundOf, course, finishOf, roundsOf, Answers}
+use Rattle.spelling.specs.Written.{Backward}
+use Rattle.rounds.specs.Course.{Course, through, lacking, found, along, judged, roundOf, course, roundsOf, Answers}
 use Rattle.search.specs.Contract.{countsBy, verdictBy, Legible, Showable, Shows}
 use Rattle.walk.proofs.Runs.{Searched, one-fails, searched}
 use Rattle.walk.proofs.Cut.{periods}
-use Rattle.rounds.proofs.Course.{run-course}
+use Rattle.rounds.proofs.Course.{finishOf, run-course}
 
 -- ---- both stem tables are there
 

@@ -26,7 +26,7 @@ use Rattle.search.specs.declared.Counts.{Counts}
 use Rattle.walk.specs.Words.{stemWord, periodWord}
 use Rattle.walk.specs.Walk.{shown, rounds, walk}
 use Rattle.search.specs.Ending.{endingBy, stemShown, periodShown, Buffers}
-use Rattle.spelling.specs.Chains.{Backward, Written}
+use Rattle.spelling.specs.Written.{Backward, Written}
 use Rattle.search.specs.Contract.{Prepared, Told, Legible, Shows}
 use Rattle.search.proofs.Shown.{Grown, finish, countsIn}
 use Rattle.walk.proofs.Runs.{u-full, w-full, ran, runs, walk-is}

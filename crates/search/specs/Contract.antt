@@ -15,7 +15,7 @@ use Rattle.rounds.specs.declared.Rounds.the-variants.{Through, Lacking, Found}
 use Rattle.walk.specs.Words.{stemWord, periodWord}
 use Rattle.walk.specs.Walk.{Verdict, included, shown, periodsFull, Walked}
 use Rattle.search.specs.Ending.{endingBy, endingOf, stemShown, periodShown, Buffers, leftBy}
-use Rattle.spelling.specs.Chains.{Backward}
+use Rattle.spelling.specs.Written.{Backward}
 
 -- S and P in range, lent tables and outputs that are long enough, and automata of few states and letters
 pub record Prepared (A B : Aut) (S P : ℕ) (lent : Buffers) : Type 0 where

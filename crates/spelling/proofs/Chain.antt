@@ -12,7 +12,7 @@ use lib.ListN.{length, getD, length-append}
 use Rattle.acceptance.specs.Lasso.{Word}
 use Rattle.walk.specs.Words.{topOf, parentOf, letterOf, chain, wordOf}
 use Rattle.walk.proofs.Reading.{chain-top}
-use Rattle.spelling.specs.Chains.{Backward}
+use Rattle.spelling.specs.Written.{Backward}
 
 module _ (links : Bool) (t : List ℕ) where
   -- the letters from i up to the top: no way is longer than the table

@@ -1,2 +1,2 @@
 -- The definitions that the contracts cite.
-pub mod Chains
+pub mod Written

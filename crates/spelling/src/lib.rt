@@ -3,7 +3,7 @@ ghost use mathlib.Core.Path.{_≡_};
 ghost use Prim.Native.Nat.{_-_, _<_, _≤_};
 ghost use lib.ListN.{length, set};
 ghost use Rattle.walk.specs.Words.{topOf, parentOf, letterOf, wordOf};
-ghost use Rattle.spelling.specs.Chains.{Backward, Written};
+ghost use Rattle.spelling.specs.Written.{Backward, Written};
 use bits::entries;
 
 // The parent at which a word begins.
