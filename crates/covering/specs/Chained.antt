@@ -1,6 +1,6 @@
 -- The entries that the scan looks at, a chain of them for each state of A: enough to decide what is covered. Assumes nothing.
 -- Place q below 16 of `chains` leads to the first entry of the chain of the state q, place 16 + i to the entry after entry i: there is one more than its
--- index, 0 at the end.
+-- index, 0 at the end. What stands beyond the places of the entries does not matter.
 use mathlib.Core.Path.{_≡_}
 use mathlib.Core.Bool.{Bool, cond, _||_}
 use mathlib.Core.List.{List, [], _∷_, map}

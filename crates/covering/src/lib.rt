@@ -115,7 +115,8 @@ fn scan(
     false
 }
 
-// Which of so many guesses is for a context at a state. Whichever it is, no answer depends on it: contexts should only fall apart well.
+// Which of so many guesses is for a context at a state. No answer depends on it; it should only spread them well, so four halves are multiplied by odd
+// numbers, whose sum fits 64 bits, and the digits in the middle, which all of them move, are taken as a part of the guesses.
 fn guess(having: Pairs8, state: u8, guesses: usize) -> usize
     requires { ⌜ (state < 16) × (1 ≤ guesses) × (guesses ≤ 65551) ⌝ }
     ensures { λ r. ⌜ r < guesses ⌝ }
