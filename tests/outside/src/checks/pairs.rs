@@ -23,6 +23,7 @@ pub fn check(seed: u64, case: u64, program: &Program, tally: &mut Tally) -> Chec
     let told = asked(&mut random, &model, &rule, 4_096, period_room as u64, tally)?;
     if told.answer.number == 0 {
         verdict(&model, &rule, &told, tally)?;
+        more_room(&mut random, &model, &rule, &told, tally)?;
     }
     let (u, w, p) = (told.answer.u, told.answer.w, told.answer.p);
     if case % SWEEP_EVERY == 0 {
@@ -63,6 +64,16 @@ pub fn check_hard(folder: &Path, tally: &mut Tally) -> Checked {
             asked(&mut random, &model, &rule, stem_room, period_room, tally)
                 .map_err(|what| format!("{}: {what}", path.display()))?;
         }
+    }
+    Ok(())
+}
+
+/// More room never changes an answer; above 2,048 the library works in another scratch.
+fn more_room(random: &mut Random, model: &[u8], rule: &[u8], told: &Told, tally: &mut Tally) -> Checked {
+    let period_room = random.between(2_049, 2_100) as u64;
+    let again = asked(random, model, rule, 4_096, period_room, tally)?;
+    if again.answer.row() != told.answer.row() {
+        return Err(format!("P={period_room}: the answer is {:?} and was {:?}", again.answer.row(), told.answer.row()));
     }
     Ok(())
 }

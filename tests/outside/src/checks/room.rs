@@ -35,7 +35,7 @@ pub fn check_ranges(tally: &mut Tally) -> Checked {
         ask(4_097, bad, 7)?;
     }
     for stem_room in [2, 3, 255, 256, 4_095, 4_096] {
-        for period_room in [2, 3, 255, 256, 2_048, 65_534, 65_535] {
+        for period_room in [2, 3, 255, 256, 2_047, 2_048, 2_049, 65_534, 65_535] {
             ask(stem_room, period_room, 0)?;
         }
     }
