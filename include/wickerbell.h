@@ -6,7 +6,7 @@
  *   - What may be written (a pointer without const) overlaps nothing else that is lent in the same call. Slices that are
  *     only read may overlap each other.
  *   - Nothing else writes any lent element, or reads one that may be written, before the call returns.
- *   - The calling thread has 1 MiB of stack left, of which less than a quarter is used: scratch lies there. Nothing is
+ *   - The calling thread has 1 MiB of stack left, of which less than half is used: scratch lies there. Nothing is
  *     allocated and nothing is kept from call to call, so threads may call at the same time, each with its own lent elements.
  *
  * Link target/staticlib/libhost.a, which `rt staticlib host` writes.

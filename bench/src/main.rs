@@ -134,7 +134,7 @@ fn timed(case: &Case, cleared: bool) -> Result<(), String> {
     Ok(())
 }
 
-/// A clock that stood still says nothing.
+/// The clock of a thread sometimes shows no time for a call of microseconds; such a reading says nothing.
 fn shorter(best: Duration, took: Duration) -> Duration {
     if took.is_zero() {
         return best;

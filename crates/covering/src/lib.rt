@@ -4,6 +4,7 @@ ghost use mathlib.Core.Bool.{cond, not};
 ghost use mathlib.Core.List.{[]};
 ghost use Prim.Native.Nat.{_+_, _-_, _*_, _<_, _≤_};
 ghost use lib.ListN.{length, getD, set};
+ghost use Rattle.bits.specs.Fields.{linkState};
 ghost use Rattle.automata.specs.Loaded.{ofPairs};
 ghost use Rattle.growth.specs.Grow.{covered};
 ghost use Rattle.growth.specs.Steps.{only};
@@ -83,8 +84,8 @@ fn pass(contexts: &[u64], chains: &mut [u16], place: usize, next: usize, having:
 }
 
 // Whether one of the first n entries covers a candidate: the chain of the candidate's state decides it, and the entry that covers comes to its front. An
-// entry that the candidate is contained in leaves the chain: the candidate, or the entry that covers it, covers what that entry covers. `links` and `n` are
-// not read: they say which entries are meant.
+// entry that the candidate is contained in leaves the chain: the candidate, or the entry that covers it, covers what that entry covers. `links`, `n`, `link`,
+// `c` and `rows` are not read: they say which entries and which candidate are meant.
 fn scan(
     links: &[u32],
     contexts: &[u64],
@@ -93,38 +94,39 @@ fn scan(
     link: u32,
     c: Pairs8,
     rows: u64,
+    state: u8,
+    missing: Pairs8,
+    present: Pairs8,
 ) -> bool
     requires { ⌜ (2 * n ≤ length (now contexts)) × (16 + n ≤ length (now chains)) × (n ≤ 65535) ⌝ }
     requires { ⌜ Chained (covers rows) (held n (now links) (now contexts)) [] (now chains) ⌝ }
+    requires { ⌜ (state ≡ linkState link) × (ofPairs missing ≡ lacking rows (ofPairs c)) × (ofPairs present ≡ having rows (ofPairs c)) ⌝ }
     ensures { λ r. ⌜ r ≡ covered (covers rows) (held n (now (links .entry)) (now (contexts .entry))) (record { link = link; context = ofPairs c }) ⌝ }
     ensures { λ r. ⌜ Chained (covers rows) (held n (now (links .entry)) (now (contexts .entry))) (only (not r) (record { link = link; context = ofPairs c })) (now (chains .exit)) ⌝ }
 {
-    let missing = lacking(rows, c);
-    let having = having(rows, c);
-    let state = entries::link_state(link) as usize;
-    let mut place = state;
+    let mut place = state as usize;
     let mut next = chains[place] as usize;
     while next != 0 {
         if apart(contexts, next - 1, missing) {
-            to_front(chains, state, place);
+            to_front(chains, state as usize, place);
             return true;
         }
-        place = pass(contexts, chains, place, next, having);
+        place = pass(contexts, chains, place, next, present);
         next = chains[place] as usize;
     }
     false
 }
 
-// Which of so many guesses is for a context at a state. No answer depends on it; it should only spread them well, so four halves are multiplied by odd
-// numbers, whose sum fits 64 bits, and the digits in the middle, which all of them move, are taken as a part of the guesses.
-fn guess(having: Pairs8, state: u8, guesses: usize) -> usize
-    requires { ⌜ (state < 16) × (1 ≤ guesses) × (guesses ≤ 65551) ⌝ }
-    ensures { λ r. ⌜ r < guesses ⌝ }
+// Which of so many kinds a candidate is of, by its context and its state: four halves times odd numbers, whose sum fits 64 bits, and of the sum the
+// digits from the sixteenth on as a part of the kinds. It should spread most candidates; no answer depends on it.
+fn kind_of(having: Pairs8, state: u8, kinds: usize) -> usize
+    requires { ⌜ (state < 16) × (1 ≤ kinds) × (kinds ≤ 65551) ⌝ }
+    ensures { λ r. ⌜ r < kinds ⌝ }
 {
     let reach = (having.reach % 4294967296) * 1013904223 + (having.reach >> 32) * 805459861;
     let through = (having.through % 4294967296) * 927492323 + (having.through >> 32) * 634603861;
     let spread = (reach + through + state as u64 * 11400714819323) >> 16;
-    ((spread % 4294967296 * guesses as u64) >> 32) as usize
+    ((spread % 4294967296 * kinds as u64) >> 32) as usize
 }
 
 // Whether an entry that is guessed, by one more than its index, is one of the first n and covers a candidate at the state.
@@ -151,8 +153,8 @@ fn guessed(
     apart(contexts, next - 1, missing)
 }
 
-// Whether one of the first n entries covers a candidate. The second half of `chains` has guesses, each the entry that was found, or is to be appended, for
-// the last context that fell to it: the same contexts come again and again, and then there is nothing to scan.
+// Whether one of the first n entries covers a candidate. The second half of `chains` has guesses, for each kind of candidate the entry that was found, or is
+// to be appended, for the last one: the same contexts come again and again, and then there is nothing to scan.
 pub fn covered(
     links: &[u32],
     contexts: &[u64],
@@ -168,22 +170,29 @@ pub fn covered(
     ensures { λ r. ⌜ Chained (covers rows) (held n (now (links .entry)) (now (contexts .entry))) (only (not r) (record { link = link; context = ofPairs c })) (now (chains .exit)) ⌝ }
 {
     let state = entries::link_state(link);
+    let missing = lacking(rows, c);
+    let present = having(rows, c);
     let half = chains.len() / 2;
-    let place = half + guess(having(rows, c), state, half);
-    if guessed(
-        links,
-        contexts,
-        n,
-        chains[place] as usize,
-        state,
-        lacking(rows, c),
-    ) {
+    let place = half + kind_of(present, state, half);
+    if guessed(links, contexts, n, chains[place] as usize, state, missing) {
         return true;
     }
-    if scan(links, contexts, chains, n, link, c, rows) {
+    if scan(
+        links,
+        contexts,
+        chains,
+        n,
+        link,
+        c,
+        rows,
+        state,
+        missing,
+        present,
+    ) {
         chains[place] = chains[state as usize];
         return true;
     }
+    // 65,535 entries are all there can be: no guess is kept for one more.
     chains[place] = ((n + 1) % 65536) as u16;
     false
 }

@@ -34,7 +34,7 @@ fn refused(number: u8, which: u8, place: usize, counts: Counts) -> Answer
     )
 }
 
-// The answer where the walk is not made: the refusal, nothing counted.
+// The answer where the walk is not made: the refusal, nothing counted. It is asked only where the outset stops; the other case has to be answered too.
 fn stopped_by(outset: Outset) -> Answer
     ensures { λ r. ⌜ r ≡ stoppedBy outset ⌝ }
 {

@@ -16,7 +16,7 @@ mod table;
 
 // The table of an accepting state, compared on the rows of the target, from the one-letter words on: an accepting state opens a period by each of its
 // transitions. The entries are taken in order, and none is left when the last one has been. What `chains` holds at entry and at exit is nobody's
-// business: it serves the scan for covering entries within this call.
+// business: it serves the look for covering entries, and what an earlier call left there does no harm.
 pub fn grow(
     links: &mut [u32],
     contexts: &mut [u64],

@@ -224,7 +224,8 @@ fn each_state(
     Rounds::Through { p, t }
 }
 
-// The rounds of each state, in a scratch for as many entries as there is room for: most calls need a small one, which takes no time to set up.
+// The rounds of each state, in a scratch for as many entries as there is room for. Most calls do with a small one, which takes less time to set up; it has
+// places for twice the entries, so that there are enough guesses.
 pub fn all(
     stems: &[u32],
     largest: &[u32],

@@ -76,7 +76,8 @@ fn decided(
     ))
 }
 
-// One sample, with a stem output that the caller lends.
+// One sample, with a stem output that the caller lends. The period output is a buffer of io's, whose length its contract says: an array of our own is
+// counted element by element when it is checked.
 fn sample(
     name: &[u8],
     model: &[u8],
@@ -185,7 +186,7 @@ fn cut_short() {
 }
 
 // The samples of M1's pair of files, and M4 and M5 between them.
-fn pair() {
+fn first_samples() {
     let all = b"I\0\0\0F\0\0\0T\0\0\0T\0\x01\0";
     let often = b"I\0\0\0F\x01\0\0T\0\0\x01T\0\x01\0T\x01\0\x01T\x01\x01\0";
     verdicts(all, often);
@@ -195,7 +196,7 @@ fn pair() {
 }
 
 fn main() {
-    pair();
+    first_samples();
     lassos();
     model_states();
     rule_states();

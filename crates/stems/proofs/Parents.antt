@@ -1,8 +1,8 @@
 -- The parents of a stem table stand before their children, and its first entry alone is the root. Assumes nothing.
-use mathlib.Core.Path.{_≡_, sym, ap, _∙_, subst}
+use mathlib.Core.Path.{_≡_, sym, _∙_, subst}
 use mathlib.Core.Bool.{Bool, false, true≢false}
 use mathlib.Core.List.{[], _∷_, List·Memᴰ·eq-of-singleton}
-use Prim.Native.Nat.{ℕ, _*_, _-_, _≤_, _<_}
+use Prim.Native.Nat.{ℕ, _-_, _≤_, _<_}
 use native.Mathlib.Decide.{ℕ-discrete}
 use native.Mathlib.Omega.{arith}
 use lib.ListN.{length, getD}
@@ -19,8 +19,8 @@ use Rattle.growth.proofs.Built.{apart, table-built, built-entries}
 use Rattle.growth.proofs.Nodes.{covers-self}
 use Rattle.growth.proofs.Linked.{Linked, starting, following, linked}
 use Rattle.growth.proofs.Rooms.{table-length}
-use Rattle.stems.specs.Stems.{targetCovers, stemRoot}
-use Rattle.stems.proofs.Packed.{stemPacked, stemEntries, packedStems, rootNode, stemKind, stem-fits, stem-entry, stem-at}
+use Rattle.stems.specs.Stems.{targetCovers}
+use Rattle.stems.proofs.Packed.{stemEntries, packedStems, rootNode, stemKind, stem-fits, stem-entry, stem-at}
 
 module _ {A B : Aut} (bound : Bounded 16 16 A) (small : Small 8 B) (largest : Bool) (room : ℕ) where
   pub stem-linked : {i : ℕ} {e : Node ℕ} → At (stemEntries A B largest room) i e
@@ -71,18 +71,8 @@ module _ {A B : Aut} (bound : Bounded 16 16 A) (small : Small 8 B) (largest : Bo
 
   -- ---- what the packed entries have
 
-  pub stem-root : 0 < length (packedStems A B largest room) → getD (packedStems A B largest room) 0 0 ≡ stemRoot A B
-  unfolding stemRoot seed
-  stem-root l = let (e, a) = stem-entry bound small largest room 0 l in stem-at bound small largest room a ∙ ap stemPacked (root-at a)
-
   pub stem-parents : (i : ℕ) → 0 < i → i < length (packedStems A B largest room) → stemParent (getD (packedStems A B largest room) i 0) < i
   stem-parents i k l =
       let (e, a) = stem-entry bound small largest room i l in
       let h = stem-fits bound small largest room .each a in
       rw (stem-at bound small largest room a) (omega (arith, parent-low a, h .load-fits, h .state-fits, h .letter-fits))
-
-  pub stem-small : room ≤ 4096 → (i : ℕ) → i < length (packedStems A B largest room) → getD (packedStems A B largest room) i 0 < 65536 * 4096
-  stem-small m i l =
-      let (e, a) = stem-entry bound small largest room i l in
-      let h = stem-fits bound small largest room .each a in
-      rw (stem-at bound small largest room a) (omega (arith, parent-fits a m, h .load-fits, h .state-fits, h .letter-fits))

@@ -14,11 +14,14 @@ use Rattle.covering.proofs.covered.Tie as tie
 link-state-requires : tie.Need-link-state-requires
 link-state-requires c κs = search needs
 
+lacking-requires : tie.Need-lacking-requires
+lacking-requires c κs = search needs
+
 having-requires : tie.Need-having-requires
 having-requires c κs = search needs
 
-guess-requires : tie.Need-guess-requires
-guess-requires c κs = search needs
+kind-of-requires : tie.Need-kind-of-requires
+kind-of-requires c κs = search needs
 
 add-place : tie.Need-add-place
 add-place c = search needs
@@ -30,16 +33,13 @@ slice-read-guessed : tie.Need-slice-read-guessed
 slice-read-guessed c = search needs
 
 cast-guessed : tie.Need-cast-guessed
-cast-guessed c = omega (arith, c .slice-known2 .given (length (c .before .before .before .before .before .before .before .args .chains .now) / 2 + c .before .guess .result))
-
-lacking-requires : tie.Need-lacking-requires
-lacking-requires c κs = search needs
+cast-guessed c = omega (arith, c .slice-known2 .given (length (c .before .before .before .before .before .before .before .before .args .chains .now) / 2 + c .before .kind-of .result))
 
 guessed-requires : tie.Need-guessed-requires
 guessed-requires c κs = search needs
 
 returns : tie.Need-returns
-returns c = (sym (guessed-covers _ _ _ _ _ _ _ (c .before .before .before .before .before .before .link-state .ensures) (c .before .before .lacking .ensures) (sym (c .before .guessed .ensures) ∙ c .if1 .taken)), c .before .before .before .before .before .before .before .before .before .before .pre .1)
+returns c = (sym (guessed-covers _ _ _ _ _ _ _ (c .before .before .before .before .before .before .link-state .ensures) (c .before .before .before .before .before .lacking .ensures) (sym (c .before .guessed .ensures) ∙ c .if1 .taken)), c .before .before .before .before .before .before .before .before .before .before .pre .1)
 
 scan-requires : tie.Need-scan-requires
 scan-requires c κs = search needs
@@ -92,13 +92,13 @@ covered-spec =
     tie.close
     (tie.spec
     link-state-requires
+    lacking-requires
     having-requires
-    guess-requires
+    kind-of-requires
     add-place
     mul-guessed
     slice-read-guessed
     cast-guessed
-    lacking-requires
     guessed-requires
     returns
     scan-requires

@@ -1,10 +1,10 @@
--- `guess` meets its contract. Assumes nothing.
+-- `kind_of` meets its contract. Assumes nothing.
 use native.Mathlib.Nat.{mod-lt, zero-lt-suc}
 use native.Mathlib.Omega.{arith}
 use Rattle.covering.proofs.Guesses.{spread-lt, share-fits, share-lt}
 use borrow.Author.Needs.{needs}
-use Rattle.covering.proofs.guess.Statement.{statement}
-use Rattle.covering.proofs.guess.Tie as tie
+use Rattle.covering.proofs.kind_of.Statement.{statement}
+use Rattle.covering.proofs.kind_of.Tie as tie
 
 mul-reach : tie.Need-mul-reach
 mul-reach c = search needs
@@ -39,8 +39,8 @@ mul-result c = record { fits = share-fits _ _ (mod-lt _ (zero-lt-suc _)) (c .bef
 returns : tie.Need-returns
 returns c = share-lt _ _ (mod-lt _ (zero-lt-suc _)) (c .before .before .before .before .pre .1)
 
-pub guess-spec : {M : Type 1} → statement M
-guess-spec =
+pub kind-of-spec : {M : Type 1} → statement M
+kind-of-spec =
     tie.close
     (tie.spec
     mul-reach
