@@ -1,6 +1,6 @@
 -- One round: the period table that was grown afresh in the lent tables, and what its lassos give. Assumes nothing.
 use mathlib.Core.Path.{_≡_, refl, sym, ap, ap₂, _∙_}
-use mathlib.Core.List.{List}
+use mathlib.Core.List.{List, [], _∷_}
 use Prim.Native.Nat.{ℕ, _-_, _*_, max, _≤_}
 use native.Mathlib.Omega.{arith}
 use lib.ListN.{length, take, length-map}
@@ -15,12 +15,14 @@ use Rattle.periods.specs.Lent.{Leaves}
 use Rattle.covering.proofs.Entries.{contexts-length}
 use Rattle.rounds.specs.declared.Rounds.{Rounds}
 use Rattle.rounds.specs.declared.Rounds.the-variants.{Lacking}
-use Rattle.walk.specs.Walk.{Search, passed, rejected, search, pairsOf, accepts, searchRound}
+use Rattle.walk.specs.Words.{stemWord, periodWord}
+use Rattle.walk.specs.Walk.{shown, periodsFull, Search, passed, rejected, search, pairsOf, accepts, searchRound}
+use Rattle.walk.proofs.Runs.{lacking, going, found, runs, run-is}
 use Rattle.lassos.specs.declared.Found.{Found as Tested}
 use Rattle.lassos.specs.Pairs.{foundOf, Few}
-use Rattle.rounds.specs.Course.{judged, roundOf, answered, Answers, Ready}
+use Rattle.rounds.specs.Answers.{answered, Answers, Ready}
 use Rattle.walk.proofs.Cut.{periods}
-use Rattle.rounds.proofs.Course.{round-ended, round-full}
+use Rattle.rounds.proofs.Legible.{through-legible, lacking-legible, found-legible}
 
 -- ---- the parts that hold the entries
 
@@ -44,10 +46,6 @@ holds o {n} {links₀ = links₀} {contexts₀ = contexts₀} h e =
       },
     )
 
-judged-ran : (v : List Period) (p : ℕ) (o : Search) {r : Rounds} {links : List ℕ} → r ≡ answered (length v) p (foundOf o) → take (length (linksOf v)) links ≡ linksOf v → Answers (judged v p o) r links
-judged-ran v p (passed t) e k = record { answer = e; kept = refl }
-judged-ran v p (rejected t i j) e k = record { answer = e; kept = k }
-
 module _ (A B : Aut) (room s rows : ℕ) {g : Growth} {links₀ links contexts₀ contexts : List ℕ} (h : Leaves (periodTable A B s rows room) g links₀ links contexts₀ contexts) where
   pub table-within : {n : ℕ} → g ≡ Ended n → n ≤ room
   table-within e = omega (arith, holds (periodTable A B s rows room) h e .1 .count, periods A B s rows .within room)
@@ -70,21 +68,37 @@ module _ (A B : Aut) (room s rows : ℕ) {g : Growth} {links₀ links contexts�
         omega arith,
       )
 
-  pub ended-ran : (u : List ℕ) (p t : ℕ) {n : ℕ} {r : Rounds} → g ≡ Ended n
+  -- one round, and what it answers
+  pub ended-ran : (u : List ℕ) (p t : ℕ) → room ≤ 65535 → {n : ℕ} {r : Rounds} → g ≡ Ended n
       → {f : Tested} → r ≡ answered n p f → f ≡ foundOf (search (accepts u (take (2 * n - 0) contexts)) (pairsOf u s rows (take (n - 0) links)) t)
-      → Answers (roundOf A B u room (s, rows) p t) r links
-  ended-ran u p t {n} e a b =
-      let v = entries (periodTable A B s rows room) in
-      let (is, h) = holds (periodTable A B s rows room) h e in
-      let all : length (linksOf v) ≡ n - 0 = omega (arith, h .count, length-map v (λ (q : Period). q .link)) in
-      let kept : take (length (linksOf v)) links ≡ linksOf v = ap (λ (k : ℕ). take k links) all ∙ h .links-part in
-      rw (round-ended A B u room s rows p t is)
-      (judged-ran v p (searchRound u (s, rows) v t)
-      (a ∙ ap₂ (λ (k : ℕ) (f : Tested). answered k p f) (sym (h .count))
-      (b ∙ ap₂ (λ (l c : List ℕ). foundOf (search (accepts u c) (pairsOf u s rows l) t)) (h .links-part) (h .contexts-part)))
-      kept)
+      → Answers A B u room ((s, rows) ∷ []) p t r links
+  ended-ran u p t short {n} {r} e a b =
+      at (searchRound u (s, rows) v t) refl (a ∙ ap₂ (λ (k : ℕ) (f : Tested). answered k p f) (sym (held .count))
+      (b ∙ ap₂ (λ (l c : List ℕ). foundOf (search (accepts u c) (pairsOf u s rows l) t)) (held .links-part) (held .contexts-part)))
+    where
+      v : List Period
+      v = entries (periodTable A B s rows room)
 
-  pub full-ran : (u : List ℕ) (p t : ℕ) {m : ℕ} → g ≡ Full → m ≡ max p room → Answers (roundOf A B u room (s, rows) p t) (Lacking m t) links
-  full-ran u p t e m =
+      is : periodTable A B s rows room ≡ ended v
+      is = holds (periodTable A B s rows room) h e .0
+
+      held : Holds v n links contexts
+      held = holds (periodTable A B s rows room) h e .1
+
+      kept : take (length v) links ≡ linksOf v
+      kept = let all : length v ≡ n - 0 = omega (arith, held .count) in ap (λ (k : ℕ). take k links) all ∙ held .links-part
+
+      at : (o : Search) → searchRound u (s, rows) v t ≡ o → r ≡ answered (length v) p (foundOf o) → Answers A B u room ((s, rows) ∷ []) p t r links
+      at (passed k) f same = rw same (record { finish = λ more. run-is (going v is f (runs A B u room more (max p (length v)) k)); legible = through-legible })
+      at (rejected k i j) f same =
+          rw same
+          (record {
+            finish = λ more. run-is (found v is f) ∙ ap (λ (l : List ℕ). record { verdict = shown (stemWord u i) (periodWord l j); periods = max p (length v); tests = k }) (sym kept);
+            legible = found-legible A B room s rows short is u t f kept;
+          })
+
+  pub full-ran : (u : List ℕ) (p t : ℕ) {m : ℕ} → g ≡ Full → m ≡ max p room → Answers A B u room ((s, rows) ∷ []) p t (Lacking m t) links
+  full-ran u p t {m} e same =
       let is = full-is (periodTable A B s rows room) (sym e ∙ h .answer) in
-      rw (round-full A B u room s rows p t is, periods A B s rows .filled room _ is) (record { answer = ap (λ (k : ℕ). Lacking k t) m; kept = refl })
+      let most : max p (length (entries (periodTable A B s rows room))) ≡ m = ap (max p) (periods A B s rows .filled room _ is) ∙ sym same in
+      record { finish = λ more. run-is (lacking _ is) ∙ ap (λ (k : ℕ). record { verdict = periodsFull; periods = k; tests = t }) most; legible = lacking-legible }

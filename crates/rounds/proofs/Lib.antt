@@ -1,5 +1,5 @@
 -- The laws of the rounds and of their loops.
-pub mod Course
+pub mod Legible
 pub mod Afresh
 pub mod Onward
 pub mod States

@@ -1,9 +1,10 @@
 -- Which rounds there are: by the states of A, and by the entries of W. Assumes nothing.
-use mathlib.Core.Path.{_≡_, refl, ap, _∙_}
+use mathlib.Core.Path.{_≡_, refl, sym, ap, _∙_}
 use mathlib.Core.Bool.{Bool, true, false, _&&_, _||_, or-false}
 use mathlib.Core.List.{List, [], _∷_}
 use Prim.Native.Nat.{ℕ, zero, suc, _≤_}
 use native.Mathlib.Omega.{arith}
+use borrow.Author.Tests.{eq-eqb, ne-eqb}
 use lib.Dec.{eqb}
 use lib.ListN.{length, getD, length-append}
 use Rattle.bits.specs.Bits.{bit, any}
@@ -13,8 +14,11 @@ use Rattle.acceptance.specs.Lasso.{Aut}
 use Rattle.growth.specs.Steps.{gather, only, steps}
 use Rattle.automata.specs.Loaded.{autOf}
 use Rattle.automata.specs.declared.Head.{Head}
-use Rattle.walk.specs.Walk.{opening, rounds}
-use Rattle.rounds.specs.Course.{roundAt, roundFor, roundsAt}
+use Rattle.walk.specs.Walk.{opening, rounds, run}
+use Rattle.rounds.specs.declared.Rounds.{Rounds}
+use Rattle.rounds.specs.Finished.{finishOf, Legible}
+use Rattle.rounds.specs.Answers.{Answers, roundAt, roundFor, roundsAt}
+use Rattle.rounds.proofs.Onward.{all-ran}
 use Rattle.growth.proofs.Gathered.{gather-nothing}
 
 -- no transition of a loaded automaton is itself accepting, so a period may start at the accepting states
@@ -29,23 +33,20 @@ opening-is rows head s =
     and-none true = refl
     and-none false = refl
 
-pub rounds-are : (A B : Aut) (w : List ℕ) → rounds A B w ≡ gather 0 16 (roundsAt A w)
-unfolding rounds steps roundsAt roundFor roundAt
-rounds-are A B w = refl
-
 -- ---- at a state that is not accepting, and of an entry at another state: none
 
 pub no-rounds : (A : Aut) (w : List ℕ) (s : ℕ) → opening A s ≡ false → roundsAt A w s ≡ []
 unfolding roundsAt roundFor roundAt
 no-rounds A w s h = gather-nothing (roundFor A w s) 0 (length w) (λ k. rw h)
 
-pub no-round : (A : Aut) (s e : ℕ) → opening A s ≡ true → eqb (stemState e) s ≡ false → roundAt A s e ≡ []
-unfolding roundAt
-no-round A s e o h = rw (o, h)
+module _ (rows : ℕ → ℕ → ℕ) (head : Head) (s e : ℕ) (accepting : bit (head .accepting) s ≡ true) {q : ℕ} (state : q ≡ stemState e) where
+  pub no-round : (q ≡ s → ⊥) → roundAt (autOf rows head) s e ≡ []
+  unfolding roundAt
+  no-round other = rw (opening-is rows head s, accepting, ne-eqb (stemState e) s (λ same. other (state ∙ same)))
 
-pub one-round : (A : Aut) (s e : ℕ) → opening A s ≡ true → eqb (stemState e) s ≡ true → roundAt A s e ≡ (s, stemTarget e) ∷ []
-unfolding roundAt
-one-round A s e o h = rw (o, h)
+  pub one-round : {x : ℕ} → q ≡ s → x ≡ stemTarget e → roundAt (autOf rows head) s e ≡ (s, x) ∷ []
+  unfolding roundAt
+  one-round here target = rw (opening-is rows head s, accepting, eq-eqb (stemState e) s (sym state ∙ here), target)
 
 -- ---- how many
 
@@ -65,3 +66,10 @@ gather-count f i (suc n) h = omega (arith, length-append (f i) (gather (suc i) n
 pub rounds-count : (A : Aut) (w : List ℕ) (s : ℕ) → length (roundsAt A w s) ≤ length w
 unfolding roundsAt
 rounds-count A w s = gather-count (roundFor A w s) 0 (length w) (round-count A w s)
+
+-- ---- all of them
+
+pub each-ran : (A B : Aut) (u : List ℕ) (room : ℕ) (w : List ℕ) {r : Rounds} {links : List ℕ} → Answers A B u room (gather 0 16 (roundsAt A w)) 0 0 r links
+    → (run A B u room (rounds A B w) 0 0 ≡ finishOf u links r) × Legible room u links r
+unfolding rounds steps roundsAt roundFor roundAt
+each-ran A B u room w h = (all-ran A B u room h, h .legible)

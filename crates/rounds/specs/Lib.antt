@@ -1,2 +1,3 @@
 -- The definitions that the contracts cite.
-pub mod Course
+pub mod Finished
+pub mod Answers

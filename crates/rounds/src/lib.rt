@@ -6,8 +6,9 @@ ghost use Prim.Native.Nat.{_*_, _^_, max, _<_, _≤_};
 ghost use lib.ListN.{length};
 ghost use Rattle.bits.specs.Bits.{bit};
 ghost use Rattle.automata.specs.Loaded.{cell, autOf};
-ghost use Rattle.walk.specs.Walk.{rounds};
-ghost use Rattle.rounds.specs.Course.{course, answered, roundAt, roundsAt, Answers, Ready};
+ghost use Rattle.walk.specs.Walk.{run, rounds};
+ghost use Rattle.rounds.specs.Finished.{finishOf, Legible};
+ghost use Rattle.rounds.specs.Answers.{answered, roundAt, roundsAt, Answers, Ready};
 use automata::Head;
 use bits::entries;
 use bits::members;
@@ -81,7 +82,8 @@ fn round(
 ) -> Rounds
     requires { ⌜ Ready room t (now stems) (now links) (now contexts) (now scratch) ⌝ }
     requires { ⌜ (s < 16) × (bit («model_head» .accepting) s ≡ true) ⌝ }
-    ensures { λ r. ⌜ Answers (course (autOf (cell (now (model .entry))) «model_head») (autOf (cell (now (rule .entry))) «rule_head») (now (stems .entry)) room (roundAt (autOf (cell (now (model .entry))) «model_head») s entry) p t) r (now (links .exit)) ⌝ }
+    ensures { λ r. ⌜ Answers (autOf (cell (now (model .entry))) «model_head») (autOf (cell (now (rule .entry))) «rule_head»)
+        (now (stems .entry)) room (roundAt (autOf (cell (now (model .entry))) «model_head») s entry) p t r (now (links .exit)) ⌝ }
 {
     if entries::stem_state(entry) != s {
         return Rounds::Through { p, t };
@@ -135,7 +137,8 @@ fn at_state(
 ) -> Rounds
     requires { ⌜ Ready room «t_before» (now stems) (now links) (now contexts) (now scratch) ⌝ }
     requires { ⌜ (s < 16) × (length (now largest) ≤ 4096) × («t_before» ≤ 2 ^ 48) ⌝ }
-    ensures { λ r. ⌜ Answers (course (autOf (cell (now (model .entry))) «model_head») (autOf (cell (now (rule .entry))) «rule_head») (now (stems .entry)) room (roundsAt (autOf (cell (now (model .entry))) «model_head») (now (largest .entry)) s) «p_before» «t_before») r (now (links .exit)) ⌝ }
+    ensures { λ r. ⌜ Answers (autOf (cell (now (model .entry))) «model_head») (autOf (cell (now (rule .entry))) «rule_head»)
+        (now (stems .entry)) room (roundsAt (autOf (cell (now (model .entry))) «model_head») (now (largest .entry)) s) «p_before» «t_before» r (now (links .exit)) ⌝ }
 {
     let mut p = p_before;
     let mut t = t_before;
@@ -189,7 +192,9 @@ fn each_state(
 ) -> Rounds
     requires { ⌜ Ready room 0 (now stems) (now links) (now contexts) (now scratch) ⌝ }
     requires { ⌜ length (now largest) ≤ 4096 ⌝ }
-    ensures { λ r. ⌜ Answers (course (autOf (cell (now (model .entry))) «model_head») (autOf (cell (now (rule .entry))) «rule_head») (now (stems .entry)) room (rounds (autOf (cell (now (model .entry))) «model_head») (autOf (cell (now (rule .entry))) «rule_head») (now (largest .entry))) 0 0) r (now (links .exit)) ⌝ }
+    ensures { λ r. ⌜ run (autOf (cell (now (model .entry))) «model_head») (autOf (cell (now (rule .entry))) «rule_head») (now (stems .entry)) room
+        (rounds (autOf (cell (now (model .entry))) «model_head») (autOf (cell (now (rule .entry))) «rule_head») (now (largest .entry))) 0 0 ≡ finishOf (now (stems .entry)) (now (links .exit)) r ⌝ }
+    ensures { λ r. ⌜ Legible room (now (stems .entry)) (now (links .exit)) r ⌝ }
 {
     let mut p = 0;
     let mut t = 0;
@@ -239,7 +244,9 @@ pub fn all(
 ) -> Rounds
     requires { ⌜ (length (now stems) ≤ 4096) × (length (now largest) ≤ 4096) ⌝ }
     requires { ⌜ (1 ≤ room) × (room ≤ 65535) × (room ≤ length (now links)) × (2 * room ≤ length (now contexts)) ⌝ }
-    ensures { λ r. ⌜ Answers (course (autOf (cell (now (model .entry))) «model_head») (autOf (cell (now (rule .entry))) «rule_head») (now (stems .entry)) room (rounds (autOf (cell (now (model .entry))) «model_head») (autOf (cell (now (rule .entry))) «rule_head») (now (largest .entry))) 0 0) r (now (links .exit)) ⌝ }
+    ensures { λ r. ⌜ run (autOf (cell (now (model .entry))) «model_head») (autOf (cell (now (rule .entry))) «rule_head») (now (stems .entry)) room
+        (rounds (autOf (cell (now (model .entry))) «model_head») (autOf (cell (now (rule .entry))) «rule_head») (now (largest .entry))) 0 0 ≡ finishOf (now (stems .entry)) (now (links .exit)) r ⌝ }
+    ensures { λ r. ⌜ Legible room (now (stems .entry)) (now (links .exit)) r ⌝ }
 {
     if room <= 2048 {
         let mut small = [0u16; 8224];

@@ -20,15 +20,16 @@ use Rattle.growth.proofs.Offering.{ended-is, full-is, take-over, over-length}
 use Rattle.stems.specs.Stems.{stemTable}
 use Rattle.stems.specs.Held.{Held}
 use Rattle.stems.proofs.Parents.{stem-parents}
+use Rattle.walk.specs.Words.{stemWord, periodWord}
+use Rattle.walk.specs.Walk.{Finish, rounds, run, walk}
+use Rattle.spelling.specs.Written.{Backward, Written}
+use Rattle.rounds.specs.declared.Rounds.{Rounds}
+use Rattle.rounds.specs.declared.Rounds.the-variants.{Found}
+use Rattle.rounds.specs.Finished.{finishOf, Legible}
 use Rattle.search.specs.declared.Ending.{Ending}
 use Rattle.search.specs.declared.Ending.the-variants.{Shown, StemsFull}
-use Rattle.search.specs.declared.Counts.{Counts}
-use Rattle.walk.specs.Words.{stemWord, periodWord}
-use Rattle.walk.specs.Walk.{shown, rounds, walk}
 use Rattle.search.specs.Ending.{endingBy, stemShown, periodShown, Buffers}
-use Rattle.spelling.specs.Written.{Backward, Written}
-use Rattle.search.specs.Contract.{Prepared, Told, Legible, Shows}
-use Rattle.search.proofs.Shown.{Grown, finish, countsIn}
+use Rattle.search.specs.Contract.{Prepared, Told, Showable, Shows}
 use Rattle.walk.proofs.Runs.{u-full, w-full, ran, runs, walk-is}
 use Rattle.walk.proofs.Cut.{stems}
 
@@ -87,6 +88,31 @@ stems-back {A} {B} bound small {S} few = record {
   parents = λ i l h. let z = eqb-false i 0 h in inr (stem-parents bound small false S i (omega arith) l);
 }
 
+-- ---- both stem tables are there, and the rounds can begin
+
+pub record Grown (P : ℕ) (u w links contexts stem period : List ℕ) : Type 0 where
+  pub some : 1 ≤ P
+  pub short : P ≤ 65535
+  pub u-few : length u ≤ 4096
+  pub w-few : length w ≤ 4096
+  pub u-back : Backward false u
+  pub links-fit : P ≤ length links
+  pub contexts-fit : 2 * P ≤ length contexts
+  pub stem-fits : length u ≤ length stem
+  pub period-fits : P ≤ length period
+
+-- the lasso that they may find can be shown
+pub showable : {P : ℕ} {u w links₀ links contexts stem period : List ℕ} {r : Rounds} → Grown P u w links₀ contexts stem period → length links ≡ length links₀
+    → Legible P u links r → Showable u links stem period r
+showable {P} h same l = record {
+  room = P;
+  legible = l;
+  stems-back = h .u-back;
+  stem-fits = h .stem-fits;
+  links-fit = omega (arith, h .links-fit);
+  period-fits = h .period-fits;
+}
+
 module _ (A B : Aut) (S P : ℕ) where
   -- ---- both are there
 
@@ -115,16 +141,16 @@ module _ (A B : Aut) (S P : ℕ) where
           period-fits = ready .period-fits;
         })
 
-    pub told-rounds : {links contexts stem period : List ℕ} {e : Ending}
-        → Shows (countsIn (length (take (u - 0) smallest)) (length (take (w - 0) largest)) (finish A B P (take (u - 0) smallest) (take (w - 0) largest)))
-        (finish A B P (take (u - 0) smallest) (take (w - 0) largest) .verdict) (old .stem) stem (old .period) period e
+    pub told-rounds : {f : Finish} {links contexts stem period : List ℕ} {e : Ending} → run A B (take (u - 0) smallest) P (rounds A B (take (w - 0) largest)) 0 0 ≡ f
+        → Shows (length (take (u - 0) smallest)) (length (take (w - 0) largest)) f (old .stem) stem (old .period) period e
         → Told (walk A B S P) old (record { smallest = smallest; largest = largest; links = links; contexts = contexts; stem = stem; period = period }) e
     unfolding U W
-    told-rounds {stem = stem} {period = period} {e = e} s =
+    told-rounds {f} {stem = stem} {period = period} {e = e} is s =
         let a = holds-stems A B S false hu eu in
         let b = holds-stems A B S true hw ew in
-        let t : Shows (countsIn (length U) (length W) (finish A B P U W)) (finish A B P U W .verdict) (old .stem) stem (old .period) period e = rw (a .part, b .part) at s in
-        rw (walk-is (ran U W (a .is-ended) (b .is-ended) (runs A B U P (rounds A B W) 0 0)))
+        let ran-to : run A B U P (rounds A B W) 0 0 ≡ f = rw (a .part, b .part) at is in
+        let t : Shows (length U) (length W) f (old .stem) stem (old .period) period e = rw (a .part, b .part) at s in
+        rw (walk-is (ran U W (a .is-ended) (b .is-ended) (runs A B U P (rounds A B W) 0 0)), ran-to)
         (record { answer = t .answer; smallest-left = hu .holds; largest-left = hw .holds; stem-left = t .stem-left; period-left = t .period-left })
 
   -- ---- one of them lacks room
@@ -156,16 +182,17 @@ module _ (A B : Aut) (S P : ℕ) where
 
 -- ---- both words of a lasso were written
 
-pub lasso-shown : {c : Counts} (u links : List ℕ) (i j n : ℕ) {a b : ℕ} {stem₀ stem period₀ period : List ℕ} → Written (stemWord u i) a stem₀ stem → Written (periodWord (take (n - 0) links) j) b period₀ period
-    → Shows c (shown (stemWord u i) (periodWord (take n links) j)) stem₀ stem period₀ period (Shown c (record { stem = a; period = b }))
+pub lasso-shown : (u links : List ℕ) (i j n m w p t : ℕ) {a b : ℕ} {stem₀ stem period₀ period : List ℕ} → Written (stemWord u i) a stem₀ stem → Written (periodWord (take (n - 0) links) j) b period₀ period
+    → Shows m w (finishOf u links (Found p t i j n)) stem₀ stem period₀ period (Shown (record { u = m; w = w; p = p; t = t }) (record { stem = a; period = b }))
 unfolding endingBy stemShown periodShown
-lasso-shown {c} u links i j n {period₀ = period₀} {period = period} s p =
-    let q = rw (sub-zero n) at p in
-    record { answer = ap₂ (λ (a b : ℕ). Shown c (record { stem = a; period = b })) (s .letters) (q .letters); stem-left = s .bytes; period-left = q .bytes }
+lasso-shown u links i j n m w p t s v =
+    let q = rw (sub-zero n) at v in
+    record { answer = ap₂ (λ (a b : ℕ). Shown (record { u = m; w = w; p = p; t = t }) (record { stem = a; period = b })) (s .letters) (q .letters); stem-left = s .bytes; period-left = q .bytes }
 
 -- the part that is lent for the period's word
-pub period-legible : {u links stem period : List ℕ} {i j n : ℕ} → Legible u links stem period i j n
+pub period-legible : {u links stem period : List ℕ} {p t i j n : ℕ} → Showable u links stem period (Found p t i j n)
     → Backward true (take (n - 0) links) × ((j < length (take (n - 0) links)) × (length (take (n - 0) links) ≤ length period))
 period-legible {links = links} {n = n} h =
-    let long : length (take n links) ≡ n = length-take-le n links (h .periods-low) in
-    rw (sub-zero n) (h .links-back, (omega (arith, h .period-low), omega (arith, h .period-fits)))
+    let (_, low, within, back) = h .legible .lasso _ _ _ _ _ refl in
+    let long : length (take n links) ≡ n = length-take-le n links (omega (arith, h .links-fit)) in
+    rw (sub-zero n) (back, (omega (arith, low), omega (arith, h .period-fits)))

@@ -1,21 +1,19 @@
 -- What the walk is given, and what it then leaves. Assumes nothing.
 use mathlib.Core.Path.{_≡_}
-use mathlib.Core.Bool.{true, false}
+use mathlib.Core.Bool.{false}
 use mathlib.Core.List.{List}
-use Prim.Native.Nat.{ℕ, _*_, _≤_, _<_}
-use lib.ListN.{length, take}
+use Prim.Native.Nat.{ℕ, _*_, _≤_}
+use lib.ListN.{length}
 use Rattle.acceptance.specs.Lasso.{Aut}
 use Rattle.acceptance.specs.Contexts.{Small}
 use Rattle.growth.specs.Numbered.{Bounded}
 use Rattle.growth.specs.Lent.{over}
-use Rattle.search.specs.declared.Counts.{Counts}
-use Rattle.search.specs.declared.Ending.{Ending}
-use Rattle.rounds.specs.declared.Rounds.{Rounds}
-use Rattle.rounds.specs.declared.Rounds.the-variants.{Through, Lacking, Found}
-use Rattle.walk.specs.Words.{stemWord, periodWord}
-use Rattle.walk.specs.Walk.{Verdict, included, shown, periodsFull, Walked}
-use Rattle.search.specs.Ending.{endingBy, endingOf, stemShown, periodShown, Buffers, leftBy}
+use Rattle.walk.specs.Walk.{Finish, Walked}
 use Rattle.spelling.specs.Written.{Backward}
+use Rattle.rounds.specs.declared.Rounds.{Rounds}
+use Rattle.rounds.specs.Finished.{Legible}
+use Rattle.search.specs.declared.Ending.{Ending}
+use Rattle.search.specs.Ending.{endingBy, endingOf, stemShown, periodShown, Buffers, leftBy}
 
 -- S and P in range, lent tables and outputs that are long enough, and automata of few states and letters
 pub record Prepared (A B : Aut) (S P : ℕ) (lent : Buffers) : Type 0 where
@@ -52,31 +50,17 @@ pub record Told (r : Walked) (old new : Buffers) (e : Ending) : Type 0 where
 
 -- ---- the words of a rejected lasso
 
-abbrev pub countsBy : (u w : ℕ) → Rounds → Counts
-countsBy u w (Through p t) = record { u = u; w = w; p = p; t = t }
-countsBy u w (Lacking p t) = record { u = u; w = w; p = p; t = t }
-countsBy u w (Found p t i j n) = record { u = u; w = w; p = p; t = t }
-
-abbrev pub verdictBy : List ℕ → List ℕ → Rounds → Verdict
-verdictBy u links (Through p t) = included
-verdictBy u links (Lacking p t) = periodsFull
-verdictBy u links (Found p t i j n) = shown (stemWord u i) (periodWord (take n links) j)
-
--- the words of the stem at i and of the period at j of n can be read back, and fit
-pub record Legible (u links stem period : List ℕ) (i j n : ℕ) : Type 0 where
-  pub stems-back : Backward false u
-  pub stem-low : i < length u
-  pub stem-fits : length u ≤ length stem
-  pub links-back : Backward true (take n links)
-  pub period-low : j < n
-  pub periods-low : n ≤ length links
-  pub period-fits : n ≤ length period
-
--- where there is a lasso
+-- where one was found, its words can be read back, and fit
 pub record Showable (u links stem period : List ℕ) (r : Rounds) : Type 0 where
-  pub legible : (p t i j n : ℕ) → r ≡ Found p t i j n → Legible u links stem period i j n
+  pub room : ℕ
+  pub legible : Legible room u links r
+  pub stems-back : Backward false u
+  pub stem-fits : length u ≤ length stem
+  pub links-fit : room ≤ length links
+  pub period-fits : room ≤ length period
 
-pub record Shows (c : Counts) (v : Verdict) (stem₀ stem period₀ period : List ℕ) (e : Ending) : Type 0 where
-  pub answer : e ≡ endingBy c v
-  pub stem-left : stem ≡ over (stemShown v) stem₀
-  pub period-left : period ≡ over (periodShown v) period₀
+-- the finish of rounds over tables of u and w entries is told, and its words are written
+pub record Shows (u w : ℕ) (f : Finish) (stem₀ stem period₀ period : List ℕ) (e : Ending) : Type 0 where
+  pub answer : e ≡ endingBy (record { u = u; w = w; p = f .periods; t = f .tests }) (f .verdict)
+  pub stem-left : stem ≡ over (stemShown (f .verdict)) stem₀
+  pub period-left : period ≡ over (periodShown (f .verdict)) period₀

@@ -3,8 +3,9 @@ ghost use mathlib.Core.Path.{_≡_};
 ghost use lib.ListN.{length, replicate};
 ghost use Rattle.automata.specs.Loaded.{cell, autOf};
 ghost use Rattle.walk.specs.Walk.{walk};
+ghost use Rattle.rounds.specs.Finished.{finishOf};
 ghost use Rattle.search.specs.declared.Ending.the-variants.{StemsFull};
-ghost use Rattle.search.specs.Contract.{Prepared, Concluded, Told, countsBy, verdictBy, Showable, Shows};
+ghost use Rattle.search.specs.Contract.{Prepared, Concluded, Told, Showable, Shows};
 use automata::Head;
 use growth::Growth;
 use rounds::Rounds;
@@ -41,7 +42,7 @@ fn show(
     period: &mut [u8],
 ) -> Ending
     requires { ⌜ Showable (now stems) (now links) (now stem) (now period) rounds ⌝ }
-    ensures { λ r. ⌜ Shows (countsBy (length (now (stems .entry))) w rounds) (verdictBy (now (stems .entry)) (now (links .entry)) rounds)
+    ensures { λ r. ⌜ Shows (length (now (stems .entry))) w (finishOf (now (stems .entry)) (now (links .entry)) rounds)
         (now (stem .entry)) (now (stem .exit)) (now (period .entry)) (now (period .exit)) r ⌝ }
 {
     let u = stems.len();

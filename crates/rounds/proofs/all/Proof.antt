@@ -1,4 +1,5 @@
 -- `all` meets its contract. Assumes nothing.
+use Rattle.rounds.proofs.Onward.{ready-first}
 use native.Mathlib.Omega.{arith}
 use borrow.Author.Needs.{needs}
 use Rattle.rounds.proofs.all.Statement.{statement}
@@ -9,19 +10,8 @@ slice-aggregate-each-state c = search needs
 
 each-state-requires : tie.Need-each-state-requires
 each-state-requires c κs =
-    let start = c .before .before .before .before .before .before .before .before in (
-      record {
-        stems = start .pre .0 .0;
-        some = start .pre .1 .0;
-        short = start .pre .1 .1;
-        links-fit = start .pre .1 .2;
-        contexts-fit = start .pre .1 .3;
-        scratch-fits = omega (arith, c .before .before .before .if1 .taken);
-        scratch-short = omega arith;
-        few = omega arith;
-      },
-      start .pre .0 .1,
-    )
+    let pre = c .before .before .before .before .before .before .before .before .pre in
+    (ready-first (pre .0 .0) (pre .1) (omega (arith, c .before .before .before .if1 .taken)) (omega arith), pre .0 .1)
 
 same-length : tie.Need-same-length
 same-length c = search needs
@@ -37,19 +27,8 @@ slice-aggregate-each-state-2 c = search needs
 
 each-state-requires-2 : tie.Need-each-state-requires-2
 each-state-requires-2 c κs =
-    let start = c .before .before .before .before .before .before .before .before in (
-      record {
-        stems = start .pre .0 .0;
-        some = start .pre .1 .0;
-        short = start .pre .1 .1;
-        links-fit = start .pre .1 .2;
-        contexts-fit = start .pre .1 .3;
-        scratch-fits = omega (arith, start .pre .1 .1);
-        scratch-short = omega arith;
-        few = omega arith;
-      },
-      start .pre .0 .1,
-    )
+    let pre = c .before .before .before .before .before .before .before .before .pre in
+    (ready-first (pre .0 .0) (pre .1) (omega (arith, pre .1 .1)) (omega arith), pre .0 .1)
 
 same-length-3 : tie.Need-same-length-3
 same-length-3 c = search needs

@@ -1,7 +1,7 @@
 -- `at_state` meets its contract. The loop's invariant: the rounds from k on give what all give, each with few tests, and the tables stay as long as they are. Assumes nothing.
 use Rattle.rounds.proofs.States.{opening-is, no-rounds, round-count}
 use Rattle.rounds.proofs.Onward.{Stopped, Onward, onward-begin, onward-next, onward-stop, onward-done, none-ran, ready-on, tests-more}
-use Rattle.rounds.specs.Course.{course, roundFor, roundsAt}
+use Rattle.rounds.specs.Answers.{roundFor, roundsAt}
 use Rattle.automata.specs.Loaded.{cell, autOf}
 use borrow.Author.Tests.{not-true, not-false}
 use native.Mathlib.Omega.{arith}
@@ -16,7 +16,7 @@ use Rattle.rounds.proofs.at_state.Tie as tie
 abbrev Inv-loop : tie.InvT-loop
 Inv-loop stems largest links₀ contexts₀ scratch₀ room s model model-head rule rule-head p-before t-before p₀ t₀ k₀ links contexts scratch p t k =
     (k ≤ length largest) × (t ≤ t-before + k * 2 ^ 28) × (length links ≡ length links₀) × (length contexts ≡ length contexts₀) × (length scratch ≡ length scratch₀)
-    × Onward (autOf (cell model) model-head) (autOf (cell rule) rule-head) stems room (roundFor (autOf (cell model) model-head) largest s) (length largest) (course (autOf (cell model) model-head) (autOf (cell rule) rule-head) stems room (roundsAt (autOf (cell model) model-head) largest s) p-before t-before) k p t
+    × Onward (autOf (cell model) model-head) (autOf (cell rule) rule-head) stems room (roundFor (autOf (cell model) model-head) largest s) (length largest) p-before t-before k p t
 
 abbrev μ-loop : tie.MeasureT-loop
 μ-loop stems largest links₀ contexts₀ scratch₀ room s model model-head rule rule-head p-before t-before p₀ t₀ k₀ links contexts scratch p t k = length largest - k
@@ -64,11 +64,11 @@ same-length-3 : tie.Need-same-length-3 Inv-loop μ-loop
 same-length-3 c = search needs
 
 returns-2 : tie.Need-returns-2 Inv-loop μ-loop
-unfolding roundFor Stopped
+unfolding roundsAt roundFor Stopped
 returns-2 c =
     let args = c .before .before .before .before .before .before .before .before .before .before .before .before .before .before .before .before .before .before .before .before .before .args in
     let loop = c .before .before .before .before .before .before .before .before .before .before .before .before .before .loop in
-    onward-stop (autOf (cell (args .model .now)) (args .model-head)) (autOf (cell (args .rule .now)) (args .rule-head)) (args .stems .now) (args .room) (roundFor (autOf (cell (args .model .now)) (args .model-head)) (args .largest .now) (args .s)) (length (args .largest .now)) (loop .inv .5) (omega arith) (c .before .before .before .before .before .before .before .round .ensures) (λ q y e. ⊎-elim (λ z. omega arith) (λ z. omega arith) (rw e at (c .match .keys2)))
+    onward-stop (autOf (cell (args .model .now)) (args .model-head)) (autOf (cell (args .rule .now)) (args .rule-head)) (args .stems .now) (args .room) (roundFor (autOf (cell (args .model .now)) (args .model-head)) (args .largest .now) (args .s)) (length (args .largest .now)) (args .p-before) (args .t-before) (loop .inv .5) (omega arith) (c .before .before .before .before .before .before .before .round .ensures) (λ q y e. ⊎-elim (λ z. omega arith) (λ z. omega arith) (rw e at (c .match .keys2)))
 
 add-k : tie.Need-add-k Inv-loop μ-loop
 add-k c = omega (arith, c .before .before .before .before .before .before .before .before .before .before .before .before .before .before .loop-test .taken, c .before .before .before .before .before .before .before .before .before .before .before .before .before .before .before .before .before .before .before .before .before .before .before .pre .1 .1)
@@ -89,7 +89,7 @@ loop-again c =
       search needs,
       search needs,
       search needs,
-      onward-next (autOf (cell (args .model .now)) (args .model-head)) (autOf (cell (args .rule .now)) (args .rule-head)) (args .stems .now) (args .room) (roundFor (autOf (cell (args .model .now)) (args .model-head)) (args .largest .now) (args .s)) (length (args .largest .now)) (loop .inv .5) (c .before .before .before .before .before .before .before .before .before .before .before .before .before .before .loop-test .taken) (round .ensures) (c .before .r .given .1),
+      onward-next (autOf (cell (args .model .now)) (args .model-head)) (autOf (cell (args .rule .now)) (args .rule-head)) (args .stems .now) (args .room) (roundFor (autOf (cell (args .model .now)) (args .model-head)) (args .largest .now) (args .s)) (length (args .largest .now)) (args .p-before) (args .t-before) (loop .inv .5) (c .before .before .before .before .before .before .before .before .before .before .before .before .before .before .loop-test .taken) (round .ensures) (c .before .r .given .1),
     )
 
 same-length-4 : tie.Need-same-length-4 Inv-loop μ-loop
@@ -102,9 +102,10 @@ same-length-6 : tie.Need-same-length-6 Inv-loop μ-loop
 same-length-6 c = search needs
 
 returns-3 : tie.Need-returns-3 Inv-loop μ-loop
+unfolding roundsAt
 returns-3 c =
     let args = c .before .before .before .before .before .before .before .before .before .args in
-    onward-done (autOf (cell (args .model .now)) (args .model-head)) (autOf (cell (args .rule .now)) (args .rule-head)) (args .stems .now) (args .room) (roundFor (autOf (cell (args .model .now)) (args .model-head)) (args .largest .now) (args .s)) (length (args .largest .now)) (c .before .loop .inv .5) (c .loop-test .left)
+    onward-done (autOf (cell (args .model .now)) (args .model-head)) (autOf (cell (args .rule .now)) (args .rule-head)) (args .stems .now) (args .room) (roundFor (autOf (cell (args .model .now)) (args .model-head)) (args .largest .now) (args .s)) (length (args .largest .now)) (args .p-before) (args .t-before) (c .before .loop .inv .5) (c .loop-test .left)
 
 pub at-state-spec : {M : Type 1} → statement M
 at-state-spec =

@@ -1,8 +1,7 @@
 -- `each_state` meets its contract. The loop's invariant: the rounds from s on give what all give, each with few tests, and the tables stay as long as they are. Assumes nothing.
-use Rattle.rounds.proofs.States.{rounds-are, rounds-count}
+use Rattle.rounds.proofs.States.{rounds-count, each-ran}
 use Rattle.rounds.proofs.Onward.{Stopped, Onward, onward-begin, onward-next, onward-stop, onward-done, ready-on, tests-more}
-use Rattle.rounds.specs.Course.{course, roundsAt}
-use Rattle.walk.specs.Walk.{rounds}
+use Rattle.rounds.specs.Answers.{roundsAt}
 use Rattle.automata.specs.Loaded.{cell, autOf}
 use Prim.Native.Nat.{_*_, _^_, _-_, _≤_}
 use native.Mathlib.Omega.{arith}
@@ -16,7 +15,7 @@ use Rattle.rounds.proofs.each_state.Tie as tie
 abbrev Inv-loop : tie.InvT-loop
 Inv-loop stems largest links₀ contexts₀ scratch₀ room model model-head rule rule-head p₀ t₀ s₀ links contexts scratch p t s =
     (s ≤ 16) × (t ≤ s * 2 ^ 40) × (length links ≡ length links₀) × (length contexts ≡ length contexts₀) × (length scratch ≡ length scratch₀)
-    × Onward (autOf (cell model) model-head) (autOf (cell rule) rule-head) stems room (roundsAt (autOf (cell model) model-head) largest) 16 (course (autOf (cell model) model-head) (autOf (cell rule) rule-head) stems room (rounds (autOf (cell model) model-head) (autOf (cell rule) rule-head) largest) 0 0) s p t
+    × Onward (autOf (cell model) model-head) (autOf (cell rule) rule-head) stems room (roundsAt (autOf (cell model) model-head) largest) 16 0 0 s p t
 
 abbrev μ-loop : tie.MeasureT-loop
 μ-loop stems largest links₀ contexts₀ scratch₀ room model model-head rule rule-head p₀ t₀ s₀ links contexts scratch p t s = 16 - s
@@ -24,7 +23,7 @@ abbrev μ-loop : tie.MeasureT-loop
 loop-holds : tie.Need-loop-holds Inv-loop μ-loop
 loop-holds c =
     let args = c .before .before .before .before .before .args in
-    (search needs, search needs, refl, refl, refl, rw (rounds-are (autOf (cell (args .model .now)) (args .model-head)) (autOf (cell (args .rule .now)) (args .rule-head)) (args .largest .now)) (onward-begin (autOf (cell (args .model .now)) (args .model-head)) (autOf (cell (args .rule .now)) (args .rule-head)) (args .stems .now) (args .room) (roundsAt (autOf (cell (args .model .now)) (args .model-head)) (args .largest .now)) 16 0 0))
+    (search needs, search needs, refl, refl, refl, onward-begin (autOf (cell (args .model .now)) (args .model-head)) (autOf (cell (args .rule .now)) (args .rule-head)) (args .stems .now) (args .room) (roundsAt (autOf (cell (args .model .now)) (args .model-head)) (args .largest .now)) 16 0 0)
 
 at-state-requires : tie.Need-at-state-requires Inv-loop μ-loop
 at-state-requires c κs =
@@ -51,7 +50,8 @@ unfolding Stopped
 returns c =
     let args = c .before .before .before .before .before .before .before .before .before .before .before .before .before .before .before .before .before .before .args in
     let loop = c .before .before .before .before .before .before .before .before .before .before .before .before .loop in
-    onward-stop (autOf (cell (args .model .now)) (args .model-head)) (autOf (cell (args .rule .now)) (args .rule-head)) (args .stems .now) (args .room) (roundsAt (autOf (cell (args .model .now)) (args .model-head)) (args .largest .now)) 16 (loop .inv .5) (c .before .before .before .before .before .before .before .before .before .before .before .loop-test .taken) (c .before .before .before .before .before .before .before .at-state .ensures) (λ q y e. ⊎-elim (λ z. omega arith) (λ z. omega arith) (rw e at (c .match .keys2)))
+    each-ran (autOf (cell (args .model .now)) (args .model-head)) (autOf (cell (args .rule .now)) (args .rule-head)) (args .stems .now) (args .room) (args .largest .now)
+    (onward-stop (autOf (cell (args .model .now)) (args .model-head)) (autOf (cell (args .rule .now)) (args .rule-head)) (args .stems .now) (args .room) (roundsAt (autOf (cell (args .model .now)) (args .model-head)) (args .largest .now)) 16 0 0 (loop .inv .5) (c .before .before .before .before .before .before .before .before .before .before .before .loop-test .taken) (c .before .before .before .before .before .before .before .at-state .ensures) (λ q y e. ⊎-elim (λ z. omega arith) (λ z. omega arith) (rw e at (c .match .keys2))))
 
 add-s : tie.Need-add-s Inv-loop μ-loop
 add-s c = omega (arith, c .before .before .before .before .before .before .before .before .before .before .before .before .before .loop-test .taken)
@@ -72,7 +72,7 @@ loop-again c =
       search needs,
       search needs,
       search needs,
-      onward-next (autOf (cell (args .model .now)) (args .model-head)) (autOf (cell (args .rule .now)) (args .rule-head)) (args .stems .now) (args .room) (roundsAt (autOf (cell (args .model .now)) (args .model-head)) (args .largest .now)) 16 (loop .inv .5) (c .before .before .before .before .before .before .before .before .before .before .before .before .before .loop-test .taken) (state .ensures) (c .before .r .given .1),
+      onward-next (autOf (cell (args .model .now)) (args .model-head)) (autOf (cell (args .rule .now)) (args .rule-head)) (args .stems .now) (args .room) (roundsAt (autOf (cell (args .model .now)) (args .model-head)) (args .largest .now)) 16 0 0 (loop .inv .5) (c .before .before .before .before .before .before .before .before .before .before .before .before .before .loop-test .taken) (state .ensures) (c .before .r .given .1),
     )
 
 same-length-4 : tie.Need-same-length-4 Inv-loop μ-loop
@@ -87,7 +87,8 @@ same-length-6 c = search needs
 returns-2 : tie.Need-returns-2 Inv-loop μ-loop
 returns-2 c =
     let args = c .before .before .before .before .before .before .before .args in
-    onward-done (autOf (cell (args .model .now)) (args .model-head)) (autOf (cell (args .rule .now)) (args .rule-head)) (args .stems .now) (args .room) (roundsAt (autOf (cell (args .model .now)) (args .model-head)) (args .largest .now)) 16 (c .before .loop .inv .5) (c .loop-test .left)
+    each-ran (autOf (cell (args .model .now)) (args .model-head)) (autOf (cell (args .rule .now)) (args .rule-head)) (args .stems .now) (args .room) (args .largest .now)
+    (onward-done (autOf (cell (args .model .now)) (args .model-head)) (autOf (cell (args .rule .now)) (args .rule-head)) (args .stems .now) (args .room) (roundsAt (autOf (cell (args .model .now)) (args .model-head)) (args .largest .now)) 16 0 0 (c .before .loop .inv .5) (c .loop-test .left))
 
 pub each-state-spec : {M : Type 1} → statement M
 each-state-spec =

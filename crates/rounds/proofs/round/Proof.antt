@@ -1,14 +1,9 @@
 -- `round` meets its contract. Assumes nothing.
-use Rattle.rounds.proofs.States.{opening-is, no-round, one-round}
-use Rattle.rounds.proofs.Onward.{none-ran, one-ran}
+use Rattle.rounds.proofs.States.{no-round, one-round}
+use Rattle.rounds.proofs.Onward.{none-ran}
 use Rattle.rounds.proofs.Afresh.{table-within, judge-ready, full-ran, ended-ran}
 use Rattle.automata.specs.Loaded.{cell, autOf}
-use Rattle.bits.specs.Fields.{stemState}
-use borrow.Author.Tests.{eq-eqb, ne-eqb}
 use native.Mathlib.Omega.{arith}
-use Prim.Native.Nat.{ℕ}
-use mathlib.Core.List.{[], _∷_}
-use mathlib.Core.Path.{sym, ap, _∙_}
 use borrow.Author.Needs.{needs}
 use Rattle.rounds.proofs.round.Statement.{statement}
 use Rattle.rounds.proofs.round.Tie as tie
@@ -21,7 +16,7 @@ returns c =
     let start = c .before .before .before .before .before .before in
     let args = start .args in
     none-ran (autOf (cell (args .model .now)) (args .model-head)) (autOf (cell (args .rule .now)) (args .rule-head)) (args .stems .now) (args .room)
-    (no-round (autOf (cell (args .model .now)) (args .model-head)) (args .s) (args .entry) (opening-is (cell (args .model .now)) (args .model-head) (args .s) ∙ start .pre .1 .1) (ne-eqb (stemState (args .entry)) (args .s) (λ e. c .if1 .taken (c .before .stem-state .ensures ∙ e))))
+    (no-round (cell (args .model .now)) (args .model-head) (args .s) (args .entry) (start .pre .1 .1) (c .before .stem-state .ensures) (c .if1 .taken))
     (args .p) (args .t)
 
 stem-target-requires : tie.Need-stem-target-requires
@@ -52,9 +47,7 @@ returns-2 : tie.Need-returns-2
 returns-2 c =
     let start = c .before .before .before .before .before .before .before .before .before .before .before .before .before .before .before .before .before .before .before .before in
     let args = start .args in
-    one-ran (autOf (cell (args .model .now)) (args .model-head)) (autOf (cell (args .rule .now)) (args .rule-head)) (args .stems .now) (args .room) (args .p) (args .t)
-    (one-round (autOf (cell (args .model .now)) (args .model-head)) (args .s) (args .entry) (opening-is (cell (args .model .now)) (args .model-head) (args .s) ∙ start .pre .1 .1) (eq-eqb (stemState (args .entry)) (args .s) (sym (c .before .before .before .before .before .before .before .before .before .before .before .before .before .before .before .stem-state .ensures) ∙ c .before .before .before .before .before .before .before .before .before .before .before .before .before .before .if1 .left))
-    ∙ ap (λ (x : ℕ). (args .s, x) ∷ []) (sym (c .before .before .before .before .before .before .before .before .before .before .before .before .before .stem-target .ensures)))
+    rw (one-round (cell (args .model .now)) (args .model-head) (args .s) (args .entry) (start .pre .1 .1) (c .before .before .before .before .before .before .before .before .before .before .before .before .before .before .before .stem-state .ensures) (c .before .before .before .before .before .before .before .before .before .before .before .before .before .before .if1 .left) (c .before .before .before .before .before .before .before .before .before .before .before .before .before .stem-target .ensures))
     (full-ran (autOf (cell (args .model .now)) (args .model-head)) (autOf (cell (args .rule .now)) (args .rule-head)) (args .room) (args .s) (c .before .before .before .before .before .before .before .before .before .before .before .before .before .stem-target .result) (c .before .before .before .before .before .before .before .before .before .grow .ensures) (args .stems .now) (args .p) (args .t) (c .before .enum-told .given .1) (c .larger .ensures))
 
 sub-first-rejected : tie.Need-sub-first-rejected
@@ -109,10 +102,8 @@ returns-3 : tie.Need-returns-3
 returns-3 c =
     let start = c .before .before .before .before .before .before .before .before .before .before .before .before .before .before .before .before .before .before .before .before .before .before .before .before .before .before .before .before .before in
     let args = start .args in
-    one-ran (autOf (cell (args .model .now)) (args .model-head)) (autOf (cell (args .rule .now)) (args .rule-head)) (args .stems .now) (args .room) (args .p) (args .t)
-    (one-round (autOf (cell (args .model .now)) (args .model-head)) (args .s) (args .entry) (opening-is (cell (args .model .now)) (args .model-head) (args .s) ∙ start .pre .1 .1) (eq-eqb (stemState (args .entry)) (args .s) (sym (c .before .before .before .before .before .before .before .before .before .before .before .before .before .before .before .before .before .before .before .before .before .before .before .before .stem-state .ensures) ∙ c .before .before .before .before .before .before .before .before .before .before .before .before .before .before .before .before .before .before .before .before .before .before .before .if1 .left))
-    ∙ ap (λ (x : ℕ). (args .s, x) ∷ []) (sym (c .before .before .before .before .before .before .before .before .before .before .before .before .before .before .before .before .before .before .before .before .before .before .stem-target .ensures)))
-    (ended-ran (autOf (cell (args .model .now)) (args .model-head)) (autOf (cell (args .rule .now)) (args .rule-head)) (args .room) (args .s) (c .before .before .before .before .before .before .before .before .before .before .before .before .before .before .before .before .before .before .before .before .before .before .stem-target .result) (c .before .before .before .before .before .before .before .before .before .before .before .before .before .before .before .before .before .before .grow .ensures) (args .stems .now) (args .p) (args .t) (c .before .before .before .before .before .before .before .before .before .before .grown .given .1) (c .counted .ensures) (c .before .before .before .first-rejected .ensures))
+    rw (one-round (cell (args .model .now)) (args .model-head) (args .s) (args .entry) (start .pre .1 .1) (c .before .before .before .before .before .before .before .before .before .before .before .before .before .before .before .before .before .before .before .before .before .before .before .before .stem-state .ensures) (c .before .before .before .before .before .before .before .before .before .before .before .before .before .before .before .before .before .before .before .before .before .before .before .if1 .left) (c .before .before .before .before .before .before .before .before .before .before .before .before .before .before .before .before .before .before .before .before .before .before .stem-target .ensures))
+    (ended-ran (autOf (cell (args .model .now)) (args .model-head)) (autOf (cell (args .rule .now)) (args .rule-head)) (args .room) (args .s) (c .before .before .before .before .before .before .before .before .before .before .before .before .before .before .before .before .before .before .before .before .before .before .stem-target .result) (c .before .before .before .before .before .before .before .before .before .before .before .before .before .before .before .before .before .before .grow .ensures) (args .stems .now) (args .p) (args .t) (start .pre .0 .short) (c .before .before .before .before .before .before .before .before .before .before .grown .given .1) (c .counted .ensures) (c .before .before .before .first-rejected .ensures))
 
 pub round-spec : {M : Type 1} → statement M
 round-spec =

@@ -1,6 +1,5 @@
 -- `tell` meets its contract. Assumes nothing.
-use Rattle.search.proofs.Telling.{stems-fit, grown, told-u, told-w, told-rounds}
-use Rattle.search.proofs.Shown.{showable, rounds-show}
+use Rattle.search.proofs.Telling.{stems-fit, showable, grown, told-u, told-w, told-rounds}
 use Rattle.automata.specs.Loaded.{cell, autOf}
 use mathlib.Core.Bool.{true, false}
 use borrow.Author.Needs.{needs}
@@ -95,9 +94,9 @@ show-requires : tie.Need-show-requires
 show-requires c κs =
     let start = c .before .before .before .before .before .before .before .before .before .before .before .before .before .before .before .before .before .before .before .before .before .before .before .before .before .before .before .before .before .before .before .before .before .before in
     let args = start .args in
-    showable (autOf (cell (args .model .now)) (args .model-head)) (autOf (cell (args .rule .now)) (args .rule-head)) _ (args .period-room) _ 0 0
+    showable
     (grown (autOf (cell (args .model .now)) (args .model-head)) (autOf (cell (args .rule .now)) (args .rule-head)) (args .stem-room) (args .period-room) (start .pre) (c .before .before .before .before .before .before .before .before .before .before .before .before .before .before .before .before .before .before .before .before .before .before .before .before .before .before .grow .ensures) (c .before .before .before .before .before .before .before .before .before .before .before .before .before .before .before .before .before .before .before .grow2 .ensures) (c .before .before .before .before .before .before .before .before .before .before .before .before .before .before .before .before .before .before .before .before .before .before .first .given .1) (c .before .before .before .before .before .before .before .before .before .before .before .before .before .before .before .second .given .1))
-    (search needs) (c .before .before .before .before .before .before .before .all .ensures)
+    (search needs) (c .before .before .before .before .before .before .before .all .ensures .1)
 
 same-length-4 : tie.Need-same-length-4
 same-length-4 c = c .before .before .before .before .before .before .before .before .before .before .before .before .before .before .before .before .before .before .before .before .before .before .before .before .before .before .before .before .before .before .before .grow .kept .0
@@ -122,7 +121,7 @@ returns-3 c =
     let start = c .before .before .before .before .before .before .before .before .before .before .before .before .before .before .before .before .before .before .before .before .before .before .before .before .before .before .before .before .before .before .before .before .before .before .before .before .before .before .before in
     let args = start .args in
     told-rounds (autOf (cell (args .model .now)) (args .model-head)) (autOf (cell (args .rule .now)) (args .rule-head)) (args .stem-room) (args .period-room) (start .pre) (c .before .before .before .before .before .before .before .before .before .before .before .before .before .before .before .before .before .before .before .before .before .before .before .before .before .before .before .before .before .before .before .grow .ensures) (c .before .before .before .before .before .before .before .before .before .before .before .before .before .before .before .before .before .before .before .before .before .before .before .before .grow2 .ensures) (c .before .before .before .before .before .before .before .before .before .before .before .before .before .before .before .before .before .before .before .before .before .before .before .before .before .before .before .first .given .1) (c .before .before .before .before .before .before .before .before .before .before .before .before .before .before .before .before .before .before .before .before .second .given .1)
-    (rounds-show (autOf (cell (args .model .now)) (args .model-head)) (autOf (cell (args .rule .now)) (args .rule-head)) _ _ (args .period-room) (c .before .before .before .before .before .before .before .before .before .before .before .before .all .ensures) (c .before .before .before .before .show .ensures))
+    (c .before .before .before .before .before .before .before .before .before .before .before .before .all .ensures .0) (c .before .before .before .before .show .ensures)
 
 pub tell-spec : {M : Type 1} → statement M
 tell-spec =
