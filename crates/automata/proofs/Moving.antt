@@ -10,7 +10,8 @@ use lib.Pow.{pow-pos}
 use Rattle.bits.specs.Bits.{bit, weight}
 use Rattle.bits.specs.Sets.{union, movesTo, moved, byRows}
 use Rattle.bits.specs.Pairs.{pair, row, pairs}
-use Rattle.bits.proofs.Bits.{setOf-lt}
+use Rattle.bits.proofs.Quantifiers.{any-none}
+use Rattle.bits.proofs.Bits.{bit-zero, setOf-lt, setOf-is}
 use Rattle.bits.proofs.Operations.{weighed-lt}
 use Rattle.bits.proofs.Moved.{movedBelow, moved-none, moved-taken, moved-passed}
 use Rattle.bits.proofs.Pairs.{bit-row, row-pairs, pairs-cong, pairs-is}
@@ -55,3 +56,12 @@ module _ (n : ℕ) (rows : List ℕ) where
   pub rowsBelow-all : (c : ℕ) → rowsBelow c n ≡ pairs n (λ q. moved n (byRows rows) (row n c q))
   unfolding rowsBelow moved
   rowsBelow-all c = refl
+
+  -- where all rows are empty there is nothing to move
+  pub rows-none : {c : ℕ} → c ≡ 0 → 0 ≡ pairs n (λ q. moved n (byRows rows) (row n c q))
+  unfolding moved movesTo
+  rows-none {c} e =
+      pairs-is n (λ q. moved n (byRows rows) (row n c q)) 0 (pow-pos (n * n))
+      (λ q h. row-zero n q
+      ∙ setOf-is (movesTo (byRows rows) (row n c q) n) n 0 (pow-pos n)
+      (λ i l. bit-zero i ∙ sym (any-none _ n (λ p m. rw (e, row-zero, bit-zero)))))

@@ -56,13 +56,18 @@ pub fn idle(accepting: u8) -> Pairs8
 }
 
 // The context of a word longer by a letter: both parts moved row by row, and what is entered and accepts has met acceptance.
+// Where nothing has met it before there is nothing to move; within a number an empty row costs nothing, since all are moved at once.
 pub fn longer(table: &[[u8; 8]; 16], head: Head, c: Pairs8, letter: usize) -> Pairs8
     requires { ⌜ letter < 16 ⌝ }
     ensures { λ r. ⌜ ofPairs r ≡ longer 8 (autOf (cell (now (table .entry))) head) (ofPairs c) letter ⌝ }
 {
     let rows = table[letter];
     let reach = moved_rows(rows, c.reach);
-    let before = moved_rows(rows, c.through);
+    let before = if c.through == 0 {
+        0
+    } else {
+        moved_rows(rows, c.through)
+    };
     let accepting = (head.accepting % 256) as u8;
     let through = met(before, reach, accepting);
     Pairs8 { reach, through }
