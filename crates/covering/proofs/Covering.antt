@@ -5,6 +5,7 @@ use mathlib.Core.List.{List, [], _∷_}
 use Prim.Native.Nat.{ℕ, _+_, _-_, _*_, _^_, _≤_, _<_}
 use native.Mathlib.Omega.{arith}
 use lib.ListN.{length, getD, set}
+use lib.Seq.{getD-set-same}
 use Rattle.bits.specs.Fields.{linkState}
 use Rattle.acceptance.specs.Contexts.{Context}
 use Rattle.growth.specs.Grow.{covered}
@@ -82,10 +83,10 @@ module _ (rows n link : ℕ) (links contexts : List ℕ) where
 
         module _ (misses : apart (contextIn contexts (next - 1)) lacks ≡ false) (small : (i : ℕ) → getD contexts i 0 < 2 ^ 64) where
           -- the step leaves less to follow
-          pub masked-on : {place′ : ℕ} {chains′ : List ℕ} → place′ ≡ cond (holds (contextIn contexts (next - 1)) has) place (next + 15)
-              → chains′ ≡ cond (holds (contextIn contexts (next - 1)) has) (set chains place (getD chains (next + 15) 0)) chains
-              → Scanning (covers rows) table (candidate c) chains′ place′ (getD chains′ place′ 0) × (following (length table) chains′ place′ < following (length table) chains place)
-          masked-on p e = rw (p, e) (at (holds (contextIn contexts (next - 1)) has) under-is)
+          pub masked-on : {place′ after : ℕ} {chains′ : List ℕ} → after ≡ getD chains (next + 15) 0 → place′ ≡ cond (holds (contextIn contexts (next - 1)) has) place (next + 15)
+              → chains′ ≡ cond (holds (contextIn contexts (next - 1)) has) (set chains place after) chains
+              → Scanning (covers rows) table (candidate c) chains′ place′ after × (following (length table) chains′ place′ < following (length table) chains place)
+          masked-on a p e = rw (p, e, a) (at (holds (contextIn contexts (next - 1)) has) under-is)
             where
               missed : covers rows (entryAt table (next - 1)) (candidate c) ≡ false
               missed = over-is ∙ misses
@@ -97,8 +98,12 @@ module _ (rows n link : ℕ) (links contexts : List ℕ) where
 
               at : (b : Bool) → covers rows (candidate c) (entryAt table (next - 1)) ≡ b
                   → Scanning (covers rows) table (candidate c) (cond b (set chains place (getD chains (next + 15) 0)) chains) (cond b place (next + 15))
-                  (getD (cond b (set chains place (getD chains (next + 15) 0)) chains) (cond b place (next + 15)) 0)
+                  (getD chains (next + 15) 0)
                   × (following (length table) (cond b (set chains place (getD chains (next + 15) 0)) chains) (cond b place (next + 15)) < following (length table) chains place)
-              at true h =
-                  (scan-drop (covers rows) table (candidate c) low s some missed long-enough (under h), drop-less (covers rows) table (candidate c) low s some missed long-enough (under h))
+              at true h = (
+                subst (Scanning (covers rows) table (candidate c) (set chains place (getD chains (next + 15) 0)) place)
+                    (getD-set-same chains place (getD chains (next + 15) 0) 0 (omega (arith, fits, masked-place)))
+                    (scan-drop (covers rows) table (candidate c) low s some missed long-enough (under h)),
+                drop-less (covers rows) table (candidate c) low s some missed long-enough (under h),
+              )
               at false h = (scan-pass (covers rows) table (candidate c) low s some missed, pass-less (covers rows) table (candidate c) low s some missed)

@@ -5,7 +5,8 @@ use mathlib.Core.List.{List}
 use Prim.Native.Nat.{ℕ, _+_, _-_, _*_, _/_, _%_, _^_, _≤_, _<_}
 use native.Mathlib.Nat.{lt-of-le-of-lt, add-le-add, mul-comm, mul-le-mul-right, mul-lt-mul-of-pos-right, div-lt-iff-lt-mul}
 use native.Mathlib.Omega.{arith}
-use borrow.Author.Tests.{ltb-true, leb-true, eqb-true}
+use borrow.Author.Tests.{lt-ltb, le-leb, ltb-true, leb-true, eqb-true}
+use lib.Bits.{bitAnd, bitOr, bitXor}
 use lib.Dec.{eqb, ltb, leb}
 use lib.ListN.{getD}
 use Rattle.bits.specs.Fields.{linkState}
@@ -17,7 +18,7 @@ use Rattle.growth.proofs.Covered.{covered-by}
 use Rattle.covering.specs.Entries.{Period, contextIn, entryIn, held}
 use Rattle.covering.specs.Masks.{lacking, apart, covers, guessed}
 use Rattle.covering.proofs.Entries.{held-length, held-at}
-use Rattle.covering.proofs.Masks.{covers-apart}
+use Rattle.covering.proofs.Masks.{covers-apart, one-question}
 
 -- two numbers of 64 bits, spread
 pub spread-lt : (x y : ℕ) → x < 2 ^ 64 → y < 2 ^ 64
@@ -40,6 +41,14 @@ module _ (x g : ℕ) (part : x < 4294967296) where
 
   pub share-lt : 1 ≤ g → x * g / 4294967296 < g
   share-lt some = div-lt-iff-lt-mul {k = 4294967296} (omega arith) .1 (subst (λ (y : ℕ). x * g < y) (mul-comm 4294967296 g) (under some))
+
+-- one of the first n is asked one question
+pub asked : {n : ℕ} (links contexts : List ℕ) (next q : ℕ) (lacks : Context) {s : ℕ} → 0 < next → next ≤ n → s ≡ linkState (getD links (next - 1) 0)
+    → eqb (bitOr (bitOr (bitXor s q) (bitAnd (getD contexts (2 * (next - 1)) 0) (lacks .reach))) (bitAnd (getD contexts (2 * (next - 1) + 1) 0) (lacks .through))) 0 ≡ guessed n links contexts next q lacks
+unfolding guessed apart
+asked {n} links contexts next q lacks {s} some within is =
+    one-question s q (bitAnd (getD contexts (2 * (next - 1)) 0) (lacks .reach)) (bitAnd (getD contexts (2 * (next - 1) + 1) 0) (lacks .through))
+    ∙ rw (lt-ltb 0 next some, le-leb next n within, is)
 
 -- an entry that is rightly guessed covers
 module _ (rows n link : ℕ) (links contexts : List ℕ) (c : Context) where

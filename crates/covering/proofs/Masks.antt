@@ -3,9 +3,9 @@ use mathlib.Core.Path.{_≡_, refl, sym, ap, ap₂, _∙_}
 use mathlib.Core.Bool.{Bool, true, false, not, _&&_}
 use Prim.Native.Nat.{ℕ, _-_, _^_, _<_}
 use native.Mathlib.Omega.{arith}
-use lib.Bits.{bitAnd, and-le-r}
+use lib.Bits.{bitAnd, bitOr, bitXor, and-le-l, and-le-r, or-add-and, xor-add-and, xor-self}
 use lib.Dec.{eqb}
-use borrow.Author.Tests.{eqb-true, eq-eqb, ne-eqb}
+use borrow.Author.Tests.{eqb-true, eqb-false, eq-eqb, ne-eqb}
 use Rattle.bits.specs.Bits.{bit}
 use Rattle.bits.proofs.Truth.{and-left, and-right}
 use Rattle.bits.proofs.Bits.{bit-zero, bit-ext}
@@ -123,3 +123,22 @@ covers-contained target old new f g =
     ap (λ (b : Bool). eqb (linkState (old .link)) (linkState (new .link)) && b)
     (ap₂ _&&_ (contained-apart 8 target (old .context .reach) (new .context .reach) (f .reach-lt) (g .reach-lt))
     (contained-apart 8 target (old .context .through) (new .context .through) (f .through-lt) (g .through-lt)))
+
+-- ---- one question in place of three: whether two numbers are the same, and two others none
+
+pub one-question : (a b x y : ℕ) → eqb (bitOr (bitOr (bitXor a b) x) y) 0 ≡ (eqb a b && (eqb x 0 && eqb y 0))
+one-question a b x y = at (eqb a b) refl (eqb x 0) refl
+  where
+    first : bitOr (bitOr (bitXor a b) x) y ≡ 0 → bitOr (bitXor a b) x ≡ 0
+    first none = omega (arith, none, or-add-and (bitOr (bitXor a b) x) y, and-le-r (bitOr (bitXor a b) x) y)
+
+    same : bitOr (bitXor a b) x ≡ 0 → a ≡ b
+    same none = omega (arith, none, or-add-and (bitXor a b) x, and-le-r (bitXor a b) x, xor-add-and a b, and-le-l a b, and-le-r a b)
+
+    second : bitOr (bitXor a b) x ≡ 0 → x ≡ 0
+    second none = omega (arith, none, or-add-and (bitXor a b) x, and-le-l (bitXor a b) x)
+
+    at : (s : Bool) → eqb a b ≡ s → (r : Bool) → eqb x 0 ≡ r → eqb (bitOr (bitOr (bitXor a b) x) y) 0 ≡ (s && (r && eqb y 0))
+    at true e true f = ap₂ (λ (k z : ℕ). eqb (bitOr (bitOr (bitXor k b) z) y) 0) (eqb-true a b e) (eqb-true x 0 f) ∙ ap (λ (k : ℕ). eqb (bitOr (bitOr k 0) y) 0) (xor-self b)
+    at true e false f = ne-eqb _ 0 (λ z. eqb-false x 0 f (second (first z)))
+    at false e r f = ne-eqb _ 0 (λ z. eqb-false a b e (same (first z)))

@@ -69,15 +69,21 @@ fn to_front(chains: &mut [u16], state: usize, place: usize)
 }
 
 // The place after the entry that the place leads to; or the same place, where that entry leaves the chain, since it has all that the candidate has.
-fn pass(contexts: &[u64], chains: &mut [u16], place: usize, next: usize, having: Pairs8) -> usize
-    requires { ⌜ (1 ≤ next) × (next ≤ 65535) × (2 * next ≤ length (now contexts)) × (place < length (now chains)) × (next + 15 < length (now chains)) ⌝ }
-    ensures { λ r. ⌜ r < length (now (chains .entry)) ⌝ }
+fn pass(
+    contexts: &[u64],
+    chains: &mut [u16],
+    place: usize,
+    next: usize,
+    after: u16,
+    having: Pairs8,
+) -> usize
+    requires { ⌜ (1 ≤ next) × (next ≤ 65535) × (2 * next ≤ length (now contexts)) × (place < length (now chains)) ⌝ }
     ensures { λ r. ⌜ r ≡ cond (holds (contextIn (now (contexts .entry)) (next - 1)) (ofPairs having)) place (next + 15) ⌝ }
     ensures { λ r. ⌜ now (chains .exit) ≡ cond (holds (contextIn (now (contexts .entry)) (next - 1)) (ofPairs having))
-        (set (now (chains .entry)) place (getD (now (chains .entry)) (next + 15) 0)) (now (chains .entry)) ⌝ }
+        (set (now (chains .entry)) place after) (now (chains .entry)) ⌝ }
 {
     if holds(contexts, next - 1, having) {
-        chains[place] = chains[next + 15];
+        chains[place] = after;
         return place;
     }
     next + 15
@@ -107,12 +113,13 @@ fn scan(
     let mut place = state as usize;
     let mut next = chains[place] as usize;
     while next != 0 {
+        let after = chains[next + 15];
         if apart(contexts, next - 1, missing) {
             to_front(chains, state as usize, place);
             return true;
         }
-        place = pass(contexts, chains, place, next, present);
-        next = chains[place] as usize;
+        place = pass(contexts, chains, place, next, after, present);
+        next = after as usize;
     }
     false
 }
@@ -129,7 +136,8 @@ fn kind_of(having: Pairs8, state: u8, kinds: usize) -> usize
     ((spread % 4294967296 * kinds as u64) >> 32) as usize
 }
 
-// Whether an entry that is guessed, by one more than its index, is one of the first n and covers a candidate at the state.
+// Whether an entry that is guessed, by one more than its index, is one of the first n and covers a candidate at the state. What is asked of the entry is one
+// question: which part of it fails cannot be foretold, whether all hold mostly can.
 fn guessed(
     links: &[u32],
     contexts: &[u64],
@@ -147,10 +155,10 @@ fn guessed(
     if next > n {
         return false;
     }
-    if entries::link_state(links[next - 1]) != state {
-        return false;
-    }
-    apart(contexts, next - 1, missing)
+    let other = (entries::link_state(links[next - 1]) ^ state) as u64;
+    let reach = contexts[2 * (next - 1)] & missing.reach;
+    let through = contexts[2 * (next - 1) + 1] & missing.through;
+    other | reach | through == 0
 }
 
 // Whether one of the first n entries covers a candidate. The second half of `chains` has guesses, for each kind of candidate the entry that was found, or is

@@ -1,12 +1,10 @@
 -- `guessed` meets its contract. Assumes nothing.
-use mathlib.Core.Path.{sym, _∙_}
-use Prim.Native.Nat.{_-_}
 use native.Mathlib.Omega.{arith}
-use borrow.Author.Tests.{lt-ltb, le-leb, lt-leb, eq-eqb, ne-eqb}
-use denote.Ref.{now}
-use lib.ListN.{getD}
-use Rattle.bits.specs.Fields.{linkState}
+use borrow.Author.Tests.{lt-ltb, lt-leb}
+use Rattle.automata.specs.Loaded.{ofPairs}
 use Rattle.covering.specs.Masks.{guessed}
+use Rattle.covering.proofs.Guesses.{asked}
+use lib.Bits.{xor-lt}
 use borrow.Author.Needs.{needs}
 use Rattle.covering.proofs.guessed.Statement.{statement}
 use Rattle.covering.proofs.guessed.Tie as tie
@@ -31,24 +29,40 @@ shared-slice-read-link-state c = search needs
 link-state-requires : tie.Need-link-state-requires
 link-state-requires c κs = search needs
 
+cast-other : tie.Need-cast-other
+cast-other c = record { fits = omega (arith, xor-lt 8 (c .link-state .result) (c .before .before .before .before .before .before .args .state) (omega (arith, c .link-state .ensures)) (omega arith)) }
+
+sub-reach : tie.Need-sub-reach
+sub-reach c = search needs
+
+mul-reach : tie.Need-mul-reach
+mul-reach c = search needs
+
+mul-reach-2 : tie.Need-mul-reach-2
+mul-reach-2 c = search needs
+
+shared-slice-read-reach : tie.Need-shared-slice-read-reach
+shared-slice-read-reach c = search needs
+
+sub-through : tie.Need-sub-through
+sub-through c = search needs
+
+mul-through : tie.Need-mul-through
+mul-through c = search needs
+
+add-through : tie.Need-add-through
+add-through c = search needs
+
+mul-through-2 : tie.Need-mul-through-2
+mul-through-2 c = search needs
+
+shared-slice-read-through : tie.Need-shared-slice-read-through
+shared-slice-read-through c = search needs
+
 returns-3 : tie.Need-returns-3
-unfolding guessed
 returns-3 c =
-    let args = c .before .before .before .before .before .before .before .args in
-    rw (lt-ltb 0 (args .next) (omega arith), le-leb (args .next) (args .n) (omega arith), ne-eqb (linkState (getD (now (args .links)) (args .next - 1) 0)) (args .state) (λ e. c .if3 .taken (c .before .link-state .ensures ∙ e)))
-
-sub-apart : tie.Need-sub-apart
-sub-apart c = search needs
-
-apart-requires : tie.Need-apart-requires
-apart-requires c κs = search needs
-
-returns-4 : tie.Need-returns-4
-unfolding guessed
-returns-4 c =
-    let args = c .before .before .before .before .before .before .before .before .args in
-    rw (lt-ltb 0 (args .next) (omega arith), le-leb (args .next) (args .n) (omega arith), eq-eqb (linkState (getD (now (args .links)) (args .next - 1) 0)) (args .state) (sym (c .before .before .link-state .ensures) ∙ c .before .if3 .left))
-    (c .apart .ensures)
+    let args = c .before .before .before .before .before .before .before .before .before .before .args in
+    asked (args .links .now) (args .contexts .now) (args .next) (args .state) (ofPairs (args .missing)) (omega arith) (omega arith) (c .before .before .before .before .link-state .ensures)
 
 pub guessed-spec : {M : Type 1} → statement M
 guessed-spec =
@@ -60,7 +74,14 @@ guessed-spec =
     mul-link-state
     shared-slice-read-link-state
     link-state-requires
-    returns-3
-    sub-apart
-    apart-requires
-    returns-4)
+    cast-other
+    sub-reach
+    mul-reach
+    mul-reach-2
+    shared-slice-read-reach
+    sub-through
+    mul-through
+    add-through
+    mul-through-2
+    shared-slice-read-through
+    returns-3)

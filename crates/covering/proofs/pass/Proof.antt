@@ -17,17 +17,8 @@ sub-holds c = search needs
 holds-requires : tie.Need-holds-requires
 holds-requires c κs = search needs
 
-add-chains : tie.Need-add-chains
-add-chains c = search needs
-
 mul-chains : tie.Need-mul-chains
 mul-chains c = search needs
-
-slice-read-chains : tie.Need-slice-read-chains
-slice-read-chains c = search needs
-
-mul-chains-2 : tie.Need-mul-chains-2
-mul-chains-2 c = search needs
 
 slice-write-chains : tie.Need-slice-write-chains
 slice-write-chains c = search needs
@@ -36,13 +27,13 @@ same-length : tie.Need-same-length
 same-length c = search needs
 
 returns : tie.Need-returns
-returns c = let is = sym (c .before .before .holds .ensures) ∙ c .before .if1 .taken in (search needs, (chosen _ _ is, chosen _ _ is))
+returns c = let is = sym (c .before .holds .ensures) ∙ c .if1 .taken in (chosen _ _ is, chosen _ _ is)
 
 add-result : tie.Need-add-result
 add-result c = search needs
 
 returns-2 : tie.Need-returns-2
-returns-2 c = let is = sym (c .before .holds .ensures) ∙ c .if1 .left in (search needs, (other _ _ is, other _ _ is))
+returns-2 c = let is = sym (c .before .holds .ensures) ∙ c .if1 .left in (other _ _ is, other _ _ is)
 
 pub pass-spec : {M : Type 1} → statement M
 pass-spec =
@@ -50,10 +41,7 @@ pass-spec =
     (tie.spec
     sub-holds
     holds-requires
-    add-chains
     mul-chains
-    slice-read-chains
-    mul-chains-2
     slice-write-chains
     same-length
     returns

@@ -1,5 +1,6 @@
 -- `scan` meets its contract. Assumes nothing.
-use mathlib.Core.Path.{_≡_, sym, _∙_}
+use mathlib.Core.Path.{_≡_, refl, sym, _∙_}
+use Prim.Native.Nat.{_+_}
 use native.Mathlib.Omega.{arith}
 use lib.ListN.{length}
 use Rattle.automata.specs.Loaded.{ofPairs}
@@ -28,18 +29,33 @@ cast-next c = omega (arith, c .slice-known2 .given (c .before .before .before .b
 loop-holds : tie.Need-loop-holds Inv-loop μ-loop
 loop-holds c = let start = c .before .before .before .before in (search needs, masked-start _ _ _ _ _ _ _ (start .pre .1 .1 .0) (start .pre .1 .0))
 
+add-after : tie.Need-add-after Inv-loop μ-loop
+add-after c =
+    let start = c .before .before .before .before .before .before in
+    omega (arith, next-low _ _ _ _ _ _ (start .pre .1 .1 .1) (start .pre .1 .1 .2) (c .before .loop .inv .1) (omega arith), start .pre .0 .2)
+
+mul-after : tie.Need-mul-after Inv-loop μ-loop
+mul-after c =
+    let start = c .before .before .before .before .before .before in
+    omega (arith, next-low _ _ _ _ _ _ (start .pre .1 .1 .1) (start .pre .1 .1 .2) (c .before .loop .inv .1) (omega arith), start .pre .0 .2)
+
+slice-read-after : tie.Need-slice-read-after Inv-loop μ-loop
+slice-read-after c =
+    let start = c .before .before .before .before .before .before .before in
+    omega (arith, next-low _ _ _ _ _ _ (start .pre .1 .1 .1) (start .pre .1 .1 .2) (c .before .before .loop .inv .1) (omega arith), start .pre .0 .1, c .before .before .loop .inv .0)
+
 sub-apart : tie.Need-sub-apart Inv-loop μ-loop
 sub-apart c = search needs
 
 apart-requires : tie.Need-apart-requires Inv-loop μ-loop
 apart-requires c κs =
-    let start = c .before .before .before .before .before .before in
-    omega (arith, next-low _ _ _ _ _ _ (start .pre .1 .1 .1) (start .pre .1 .1 .2) (c .before .loop .inv .1) (omega arith), start .pre .0 .0)
+    let start = c .before .before .before .before .before .before .before in
+    omega (arith, next-low _ _ _ _ _ _ (start .pre .1 .1 .1) (start .pre .1 .1 .2) (c .before .before .loop .inv .1) (omega arith), start .pre .0 .0)
 
 to-front-requires : tie.Need-to-front-requires Inv-loop μ-loop
 to-front-requires c κs =
-    let start = c .before .before .before .before .before .before .before .before .before in
-    let loop = c .before .before .before .before .loop in
+    let start = c .before .before .before .before .before .before .before .before .before .before in
+    let loop = c .before .before .before .before .before .loop in
     let place = masked-place _ _ _ _ _ _ (start .pre .1 .1 .1) (start .pre .1 .1 .2) (loop .inv .1) in
     let next = next-low _ _ _ _ _ _ (start .pre .1 .1 .1) (start .pre .1 .1 .2) (loop .inv .1) (omega arith) in
     let is = masked-next _ _ _ _ _ _ (start .pre .1 .1 .1) (start .pre .1 .1 .2) (loop .inv .1) in
@@ -50,39 +66,33 @@ same-length c = search needs
 
 returns : tie.Need-returns Inv-loop μ-loop
 returns c =
-    let start = c .before .before .before .before .before .before .before .before .before .before .before .before in
-    let loop = c .before .before .before .before .before .before .before .loop in
+    let start = c .before .before .before .before .before .before .before .before .before .before .before .before .before in
+    let loop = c .before .before .before .before .before .before .before .before .loop in
     let (is, chained) = masked-hit _ _ _ _ _ _ (start .pre .1 .1 .1) (start .pre .1 .1 .2) (loop .inv .1) (omega arith) (omega (arith, start .pre .0, loop .inv .0)) (sym (c .before .before .before .before .before .apart .ensures) ∙ c .before .before .before .before .if1 .taken) (omega arith) (omega arith) (start .pre .1 .1 .0) (c .before .before .to-front .ensures) in
     (sym is, chained)
 
 pass-requires : tie.Need-pass-requires Inv-loop μ-loop
 pass-requires c κs =
-    let start = c .before .before .before .before .before .before .before .before .before in
-    let loop = c .before .before .before .before .loop in
+    let start = c .before .before .before .before .before .before .before .before .before .before in
+    let loop = c .before .before .before .before .before .loop in
     let place = masked-place _ _ _ _ _ _ (start .pre .1 .1 .1) (start .pre .1 .1 .2) (loop .inv .1) in
     let next = next-low _ _ _ _ _ _ (start .pre .1 .1 .1) (start .pre .1 .1 .2) (loop .inv .1) (omega arith) in
-    (omega arith, omega (arith, next, start .pre .0), omega (arith, next, start .pre .0), omega (arith, place, start .pre .0, loop .inv .0), omega (arith, next, start .pre .0, loop .inv .0))
-
-mul-next-2 : tie.Need-mul-next-2 Inv-loop μ-loop
-mul-next-2 c = search needs
-
-slice-read-next-2 : tie.Need-slice-read-next-2 Inv-loop μ-loop
-slice-read-next-2 c = search needs
+    (omega arith, omega (arith, next, start .pre .0), omega (arith, next, start .pre .0), omega (arith, place, start .pre .0, loop .inv .0))
 
 cast-next-2 : tie.Need-cast-next-2 Inv-loop μ-loop
-cast-next-2 c = omega (arith, c .slice-known5 .given (c .before .before .before .pass .result))
+cast-next-2 c = omega (arith, c .before .before .before .before .before .before .slice-known3 .given (c .before .before .before .before .before .before .before .before .loop .next + 15))
 
 loop-less : tie.Need-loop-less Inv-loop μ-loop
 loop-less c =
     let start = c .before .before .before .before .before .before .before .before .before .before .before .before .before in
     let loop = c .before .before .before .before .before .before .before .before .loop in
-    masked-on _ _ _ _ _ _ (start .pre .1 .1 .1) (start .pre .1 .1 .2) (loop .inv .1) (omega arith) (omega (arith, start .pre .0, loop .inv .0)) (sym (c .before .before .before .before .before .before .apart .ensures) ∙ c .before .before .before .before .before .if1 .left) (λ i. omega (arith, c .before .before .before .before .before .before .before .before .before .before .before .shared-slice-known2 .given i)) (c .before .before .before .pass .ensures .1 .0) (c .before .before .before .pass .ensures .1 .1) .1
+    masked-on _ _ _ _ _ _ (start .pre .1 .1 .1) (start .pre .1 .1 .2) (loop .inv .1) (omega arith) (omega (arith, start .pre .0, loop .inv .0)) (sym (c .before .before .before .before .before .apart .ensures) ∙ c .before .before .before .before .if1 .left) (λ i. omega (arith, c .before .before .before .before .before .before .before .before .before .before .before .shared-slice-known2 .given i)) refl (c .before .before .pass .ensures .0) (c .before .before .pass .ensures .1) .1
 
 loop-again : tie.Need-loop-again Inv-loop μ-loop
 loop-again c =
     let start = c .before .before .before .before .before .before .before .before .before .before .before .before .before in
     let loop = c .before .before .before .before .before .before .before .before .loop in
-    (search needs, record { for = λ d l k. masked-on _ _ _ _ _ d l k (loop .inv .1) (omega arith) (omega (arith, start .pre .0, loop .inv .0)) (sym (c .before .before .before .before .before .before .apart .ensures) ∙ c .before .before .before .before .before .if1 .left) (λ i. omega (arith, c .before .before .before .before .before .before .before .before .before .before .before .shared-slice-known2 .given i)) (c .before .before .before .pass .ensures .1 .0) (c .before .before .before .pass .ensures .1 .1) .0 })
+    (search needs, record { for = λ d l k. masked-on _ _ _ _ _ d l k (loop .inv .1) (omega arith) (omega (arith, start .pre .0, loop .inv .0)) (sym (c .before .before .before .before .before .apart .ensures) ∙ c .before .before .before .before .if1 .left) (λ i. omega (arith, c .before .before .before .before .before .before .before .before .before .before .before .shared-slice-known2 .given i)) refl (c .before .before .pass .ensures .0) (c .before .before .pass .ensures .1) .0 })
 
 same-length-2 : tie.Need-same-length-2 Inv-loop μ-loop
 same-length-2 c = search needs
@@ -103,14 +113,15 @@ scan-spec =
     slice-read-next
     cast-next
     loop-holds
+    add-after
+    mul-after
+    slice-read-after
     sub-apart
     apart-requires
     to-front-requires
     same-length
     returns
     pass-requires
-    mul-next-2
-    slice-read-next-2
     cast-next-2
     loop-less
     loop-again
