@@ -6,7 +6,7 @@ use Prim.Native.Nat.{ℕ, _*_, _^_, _<_}
 use lib.Pow.{pow-lt}
 use Rattle.bits.specs.Bits.{weight}
 use Rattle.bits.specs.Sets.{SetIs}
-use Rattle.bits.specs.Pairs.{row, pairs, containedOn}
+use Rattle.bits.specs.Pairs.{row, containedOn}
 use Rattle.bits.proofs.Sets.{setIs-subset, setIs-within}
 use Rattle.bits.proofs.Operations.{weighed-lt}
 use Rattle.bits.proofs.Pairs.{pairs-lt, row-pairs}

@@ -56,7 +56,7 @@ pub fn idle(accepting: u8) -> Pairs8
 }
 
 // The context of a word longer by a letter: both parts moved row by row, and what is entered and accepts has met acceptance.
-// Where nothing has met it before there is nothing to move; within a number an empty row costs nothing, since all are moved at once.
+// Where nothing has met it before, no row is moved; an empty row among others takes no step of its own, since all are moved at once.
 pub fn longer(table: &[[u8; 8]; 16], head: Head, c: Pairs8, letter: usize) -> Pairs8
     requires { ⌜ letter < 16 ⌝ }
     ensures { λ r. ⌜ ofPairs r ≡ longer 8 (autOf (cell (now (table .entry))) head) (ofPairs c) letter ⌝ }

@@ -8,9 +8,9 @@ use lib.Arith.{digits-lt}
 use lib.Bits.{bitAnd}
 use lib.Dec.{eqb}
 use lib.Pow.{pow-pos, ones-lt}
-use Rattle.bits.specs.Bits.{bit, weight, all}
+use Rattle.bits.specs.Bits.{bit, weight}
 use Rattle.bits.specs.Sets.{subset}
-use Rattle.bits.specs.Pairs.{pair, row, pairs, rowsOf, containedOn}
+use Rattle.bits.specs.Pairs.{pair, row, rowsOf, containedOn}
 use Rattle.bits.proofs.Truth.{bool-same, and-left, and-right, and-both, implies, implied}
 use Rattle.bits.proofs.Quantifiers.{all-intro, all-elim}
 use Rattle.bits.proofs.Bits.{bit-zero}

@@ -6,7 +6,7 @@ use native.Mathlib.Numerals.{add-one}
 use native.Mathlib.Omega.{arith}
 use lib.Bits.{bitAnd, and-mask, bitOr, or-shifted-r}
 use lib.Pow.{pow-pos, pow-add, shl-exact}
-use Rattle.bits.specs.Bits.{digit, pack, bit, weight}
+use Rattle.bits.specs.Bits.{digit, pack, bit}
 use Rattle.bits.specs.Pairs.{pair, row, pairs}
 use Rattle.bits.proofs.Digits.{pack-lt, pack-cong, digit-lt, digit-pack, pack-is}
 use Rattle.bits.proofs.Bits.{bit-shr, bit-mod}

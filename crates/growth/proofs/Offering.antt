@@ -8,7 +8,7 @@ use native.Mathlib.Numerals.{add-one}
 use native.Mathlib.Omega.{arith}
 use lib.ListN.{length, getD, getElem?, take, drop, set, length-append, length-drop, take-append-drop, List·getD-append}
 use lib.Seq.{length-take-le, drop-cons, drop-drop, drop-append-add, take-append-seam, set-append-seam}
-use Rattle.growth.specs.Grow.{Outcome, ended, full, onward, entries, covered, offer, grow, table}
+use Rattle.growth.specs.Grow.{Outcome, ended, full, onward, entries, covered, offer, grow}
 use Rattle.growth.specs.Steps.{gather}
 use Rattle.growth.specs.Lent.{growthOf, over}
 use Rattle.growth.specs.declared.Growth.the-variants.{Ended, Full}

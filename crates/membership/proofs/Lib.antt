@@ -1,3 +1,4 @@
+-- The laws of the lasso test.
 pub mod Lettered
 pub mod Walked
 pub mod Judged

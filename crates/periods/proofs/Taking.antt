@@ -9,7 +9,7 @@ use lib.ListN.{length}
 use Rattle.bits.specs.Bits.{values}
 use Rattle.growth.specs.declared.Growth.{Growth}
 use Rattle.growth.specs.declared.Growth.the-variants.{Ended, Full}
-use Rattle.growth.specs.Grow.{Outcome, onward, entries, offer, grow, table}
+use Rattle.growth.specs.Grow.{Outcome, onward, offer, grow, table}
 use Rattle.growth.proofs.Grown.{grow-end}
 use Rattle.growth.proofs.Offering.{grow-on}
 use Rattle.covering.specs.Entries.{Period, entryIn, held}

@@ -3,3 +3,4 @@ pub mod Legible
 pub mod Afresh
 pub mod Onward
 pub mod States
+pub mod Wrong

@@ -22,14 +22,13 @@ use Rattle.rounds.specs.Answers.{along, Answers, Ready}
 use Rattle.rounds.proofs.Legible.{through-legible}
 
 -- before the first round
-pub ready-first : {room : ℕ} {u links contexts scratch : List ℕ} → length u ≤ 4096 → (1 ≤ room) × (room ≤ 65535) × (room ≤ length links) × (2 * room ≤ length contexts)
+pub ready-first : {room : ℕ} {u links contexts scratch : List ℕ} → length u ≤ 4096 → (room ≤ 65535) × (room ≤ length links) × (2 * room ≤ length contexts)
     → 2 * (16 + room) ≤ length scratch → length scratch ≤ 131102 → Ready room 0 u links contexts scratch
 ready-first few room fits short = record {
   stems = few;
-  some = room .0;
-  short = room .1;
-  links-fit = room .2;
-  contexts-fit = room .3;
+  short = room .0;
+  links-fit = room .1;
+  contexts-fit = room .2;
   scratch-fits = fits;
   scratch-short = short;
   few = omega arith;
@@ -40,7 +39,6 @@ pub ready-on : {room t m : ℕ} {u links₀ links contexts₀ contexts scratch�
     → length links ≡ length links₀ → length contexts ≡ length contexts₀ → length scratch ≡ length scratch₀ → m ≤ 2 ^ 50 → Ready room m u links contexts scratch
 ready-on h l c s m = record {
   stems = h .stems;
-  some = h .some;
   short = h .short;
   links-fit = omega (arith, h .links-fit);
   contexts-fit = omega (arith, h .contexts-fit);

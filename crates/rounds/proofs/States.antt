@@ -14,9 +14,9 @@ use Rattle.acceptance.specs.Lasso.{Aut}
 use Rattle.growth.specs.Steps.{gather, only, steps}
 use Rattle.automata.specs.Loaded.{autOf}
 use Rattle.automata.specs.declared.Head.{Head}
-use Rattle.walk.specs.Walk.{opening, rounds, run}
+use Rattle.walk.specs.Walk.{opening, rounds}
 use Rattle.rounds.specs.declared.Rounds.{Rounds}
-use Rattle.rounds.specs.Finished.{finishOf, Legible}
+use Rattle.rounds.specs.Finished.{Finished}
 use Rattle.rounds.specs.Answers.{Answers, roundAt, roundFor, roundsAt}
 use Rattle.rounds.proofs.Onward.{all-ran}
 use Rattle.growth.proofs.Gathered.{gather-nothing}
@@ -69,7 +69,6 @@ rounds-count A w s = gather-count (roundFor A w s) 0 (length w) (round-count A w
 
 -- ---- all of them
 
-pub each-ran : (A B : Aut) (u : List ℕ) (room : ℕ) (w : List ℕ) {r : Rounds} {links : List ℕ} → Answers A B u room (gather 0 16 (roundsAt A w)) 0 0 r links
-    → (run A B u room (rounds A B w) 0 0 ≡ finishOf u links r) × Legible room u links r
+pub each-ran : (A B : Aut) (u : List ℕ) (room : ℕ) (w : List ℕ) {r : Rounds} {links : List ℕ} → Answers A B u room (gather 0 16 (roundsAt A w)) 0 0 r links → Finished A B u w room r links
 unfolding rounds steps roundsAt roundFor roundAt
-each-ran A B u room w h = (all-ran A B u room h, h .legible)
+each-ran A B u room w h = record { finish = all-ran A B u room h; legible = h .legible }

@@ -47,7 +47,6 @@ roundsAt A w s = gather 0 (length w) (roundFor A w s)
 -- what a round is given: room, and few tests so far
 pub record Ready (room tests : ℕ) (u links contexts scratch : List ℕ) : Type 0 where
   pub stems : length u ≤ 4096
-  pub some : 1 ≤ room
   pub short : room ≤ 65535
   pub links-fit : room ≤ length links
   pub contexts-fit : 2 * room ≤ length contexts

@@ -4,10 +4,11 @@ use mathlib.Core.Bool.{true}
 use mathlib.Core.List.{List}
 use Prim.Native.Nat.{ℕ, _≤_, _<_}
 use lib.ListN.{length, take}
+use Rattle.acceptance.specs.Lasso.{Aut}
 use Rattle.rounds.specs.declared.Rounds.{Rounds}
 use Rattle.rounds.specs.declared.Rounds.the-variants.{Through, Lacking, Found}
 use Rattle.walk.specs.Words.{stemWord, periodWord}
-use Rattle.walk.specs.Walk.{included, shown, periodsFull, Finish}
+use Rattle.walk.specs.Walk.{included, shown, periodsFull, Finish, run, rounds}
 use Rattle.spelling.specs.Written.{Backward}
 
 -- the finish, read off the answer: the words are those of the stems u and of the period table in the first links
@@ -19,3 +20,8 @@ finishOf u links (Found p t i j n) = record { verdict = shown (stemWord u i) (pe
 -- the words of a lasso that was found can be read back: its indices are those of entries, and the links lead backward
 pub record Legible (room : ℕ) (u links : List ℕ) (r : Rounds) : Type 0 where
   pub lasso : (p t i j n : ℕ) → r ≡ Found p t i j n → (i < length u) × (j < n) × (n ≤ room) × Backward true (take n links)
+
+-- what the rounds of all entries of W answer
+pub record Finished (A B : Aut) (u w : List ℕ) (room : ℕ) (r : Rounds) (links : List ℕ) : Type 0 where
+  pub finish : run A B u room (rounds A B w) 0 0 ≡ finishOf u links r
+  pub legible : Legible room u links r

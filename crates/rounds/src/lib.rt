@@ -6,8 +6,7 @@ ghost use Prim.Native.Nat.{_*_, _^_, max, _<_, _≤_};
 ghost use lib.ListN.{length};
 ghost use Rattle.bits.specs.Bits.{bit};
 ghost use Rattle.automata.specs.Loaded.{cell, autOf};
-ghost use Rattle.walk.specs.Walk.{run, rounds};
-ghost use Rattle.rounds.specs.Finished.{finishOf, Legible};
+ghost use Rattle.rounds.specs.Finished.{Finished};
 ghost use Rattle.rounds.specs.Answers.{answered, roundAt, roundsAt, Answers, Ready};
 use automata::Head;
 use bits::entries;
@@ -192,9 +191,8 @@ fn each_state(
 ) -> Rounds
     requires { ⌜ Ready room 0 (now stems) (now links) (now contexts) (now scratch) ⌝ }
     requires { ⌜ length (now largest) ≤ 4096 ⌝ }
-    ensures { λ r. ⌜ run (autOf (cell (now (model .entry))) «model_head») (autOf (cell (now (rule .entry))) «rule_head») (now (stems .entry)) room
-        (rounds (autOf (cell (now (model .entry))) «model_head») (autOf (cell (now (rule .entry))) «rule_head») (now (largest .entry))) 0 0 ≡ finishOf (now (stems .entry)) (now (links .exit)) r ⌝ }
-    ensures { λ r. ⌜ Legible room (now (stems .entry)) (now (links .exit)) r ⌝ }
+    ensures { λ r. ⌜ Finished (autOf (cell (now (model .entry))) «model_head») (autOf (cell (now (rule .entry))) «rule_head»)
+        (now (stems .entry)) (now (largest .entry)) room r (now (links .exit)) ⌝ }
 {
     let mut p = 0;
     let mut t = 0;
@@ -229,7 +227,7 @@ fn each_state(
     Rounds::Through { p, t }
 }
 
-// The rounds of each state, in a scratch for as many entries as there is room for. Most calls do with a small one, which takes less time to set up; it has
+// The rounds of each state, in a scratch that is large enough for the room. Most calls do with a small one, which takes less time to set up; it has
 // places for twice the entries, so that there are enough guesses.
 pub fn all(
     stems: &[u32],
@@ -243,10 +241,9 @@ pub fn all(
     rule_head: Head,
 ) -> Rounds
     requires { ⌜ (length (now stems) ≤ 4096) × (length (now largest) ≤ 4096) ⌝ }
-    requires { ⌜ (1 ≤ room) × (room ≤ 65535) × (room ≤ length (now links)) × (2 * room ≤ length (now contexts)) ⌝ }
-    ensures { λ r. ⌜ run (autOf (cell (now (model .entry))) «model_head») (autOf (cell (now (rule .entry))) «rule_head») (now (stems .entry)) room
-        (rounds (autOf (cell (now (model .entry))) «model_head») (autOf (cell (now (rule .entry))) «rule_head») (now (largest .entry))) 0 0 ≡ finishOf (now (stems .entry)) (now (links .exit)) r ⌝ }
-    ensures { λ r. ⌜ Legible room (now (stems .entry)) (now (links .exit)) r ⌝ }
+    requires { ⌜ (room ≤ 65535) × (room ≤ length (now links)) × (2 * room ≤ length (now contexts)) ⌝ }
+    ensures { λ r. ⌜ Finished (autOf (cell (now (model .entry))) «model_head») (autOf (cell (now (rule .entry))) «rule_head»)
+        (now (stems .entry)) (now (largest .entry)) room r (now (links .exit)) ⌝ }
 {
     if room <= 2048 {
         let mut small = [0u16; 8224];

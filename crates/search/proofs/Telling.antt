@@ -91,7 +91,6 @@ stems-back {A} {B} bound small {S} few = record {
 -- ---- both stem tables are there, and the rounds can begin
 
 pub record Grown (P : ℕ) (u w links contexts stem period : List ℕ) : Type 0 where
-  pub some : 1 ≤ P
   pub short : P ≤ 65535
   pub u-few : length u ≤ 4096
   pub w-few : length w ≤ 4096
@@ -130,7 +129,6 @@ module _ (A B : Aut) (S P : ℕ) where
         let a = holds-stems A B S false hu eu in
         let b = holds-stems A B S true hw ew in
         rw (a .part, b .part) (record {
-          some = ready .some-periods;
           short = ready .few-periods;
           u-few = omega (arith, a .count, a .within, ready .few-stems);
           w-few = omega (arith, b .count, b .within, ready .few-stems);

@@ -1,3 +1,4 @@
 -- The laws of the words that are read back and written.
 pub mod Chain
 pub mod Back
+pub mod Wrong

@@ -28,7 +28,7 @@ slice-aggregate-each-state-2 c = search needs
 each-state-requires-2 : tie.Need-each-state-requires-2
 each-state-requires-2 c κs =
     let pre = c .before .before .before .before .before .before .before .before .pre in
-    (ready-first (pre .0 .0) (pre .1) (omega (arith, pre .1 .1)) (omega arith), pre .0 .1)
+    (ready-first (pre .0 .0) (pre .1) (omega (arith, pre .1 .0)) (omega arith), pre .0 .1)
 
 same-length-3 : tie.Need-same-length-3
 same-length-3 c = search needs

@@ -88,7 +88,7 @@ all-requires c κs =
     let start = c .before .before .before .before .before .before .before .before .before .before .before .before .before .before .before .before .before .before .before .before .before .before .before .before .before .before in
     let args = start .args in
     let g = grown (autOf (cell (args .model .now)) (args .model-head)) (autOf (cell (args .rule .now)) (args .rule-head)) (args .stem-room) (args .period-room) (start .pre) (c .before .before .before .before .before .before .before .before .before .before .before .before .before .before .before .before .before .before .grow .ensures) (c .before .before .before .before .before .before .before .before .before .before .before .grow2 .ensures) (c .before .before .before .before .before .before .before .before .before .before .before .before .before .before .first .given .1) (c .before .before .before .before .before .before .before .second .given .1) in
-    ((g .u-few, g .w-few), (g .some, g .short, g .links-fit, g .contexts-fit))
+    ((g .u-few, g .w-few), (g .short, g .links-fit, g .contexts-fit))
 
 show-requires : tie.Need-show-requires
 show-requires c κs =
@@ -96,7 +96,7 @@ show-requires c κs =
     let args = start .args in
     showable
     (grown (autOf (cell (args .model .now)) (args .model-head)) (autOf (cell (args .rule .now)) (args .rule-head)) (args .stem-room) (args .period-room) (start .pre) (c .before .before .before .before .before .before .before .before .before .before .before .before .before .before .before .before .before .before .before .before .before .before .before .before .before .before .grow .ensures) (c .before .before .before .before .before .before .before .before .before .before .before .before .before .before .before .before .before .before .before .grow2 .ensures) (c .before .before .before .before .before .before .before .before .before .before .before .before .before .before .before .before .before .before .before .before .before .before .first .given .1) (c .before .before .before .before .before .before .before .before .before .before .before .before .before .before .before .second .given .1))
-    (search needs) (c .before .before .before .before .before .before .before .all .ensures .1)
+    (search needs) (c .before .before .before .before .before .before .before .all .ensures .legible)
 
 same-length-4 : tie.Need-same-length-4
 same-length-4 c = c .before .before .before .before .before .before .before .before .before .before .before .before .before .before .before .before .before .before .before .before .before .before .before .before .before .before .before .before .before .before .before .grow .kept .0
@@ -121,7 +121,7 @@ returns-3 c =
     let start = c .before .before .before .before .before .before .before .before .before .before .before .before .before .before .before .before .before .before .before .before .before .before .before .before .before .before .before .before .before .before .before .before .before .before .before .before .before .before .before in
     let args = start .args in
     told-rounds (autOf (cell (args .model .now)) (args .model-head)) (autOf (cell (args .rule .now)) (args .rule-head)) (args .stem-room) (args .period-room) (start .pre) (c .before .before .before .before .before .before .before .before .before .before .before .before .before .before .before .before .before .before .before .before .before .before .before .before .before .before .before .before .before .before .before .grow .ensures) (c .before .before .before .before .before .before .before .before .before .before .before .before .before .before .before .before .before .before .before .before .before .before .before .before .grow2 .ensures) (c .before .before .before .before .before .before .before .before .before .before .before .before .before .before .before .before .before .before .before .before .before .before .before .before .before .before .before .first .given .1) (c .before .before .before .before .before .before .before .before .before .before .before .before .before .before .before .before .before .before .before .before .second .given .1)
-    (c .before .before .before .before .before .before .before .before .before .before .before .before .all .ensures .0) (c .before .before .before .before .show .ensures)
+    (c .before .before .before .before .before .before .before .before .before .before .before .before .all .ensures .finish) (c .before .before .before .before .show .ensures)
 
 pub tell-spec : {M : Type 1} → statement M
 tell-spec =
