@@ -27,12 +27,12 @@ use Rattle.rounds.proofs.Legible.{through-legible, lacking-legible, fou
 -- ---- the parts that hold the entries
 
 -- n entries: the links and the contexts are exactly the first of what was lent
-pub record Holds (v : List Period) (n : ℕ) (links contexts : List ℕ) : Type 0 where
+record Holds (v : List Period) (n : ℕ) (links contexts : List ℕ) : Type 0 where
   pub count : length v ≡ n
   pub links-part : take (n - 0) links ≡ linksOf v
   pub contexts-part : take (2 * n - 0) contexts ≡ contextsOf v
 
-pub holds : (o : Outcome Period) {n : ℕ} {r : Growth} {links₀ links contexts₀ contexts : List ℕ} → Leaves o r links₀ links contexts₀ contexts → r ≡ Ended n
+holds : (o : Outcome Period) {n : ℕ} {r : Growth} {links₀ links contexts₀ contexts : List ℕ} → Leaves o r links₀ links contexts₀ contexts → r ≡ Ended n
     → (o ≡ ended (entries o)) × Holds (entries o) n links contexts
 holds o {n} {links₀ = links₀} {contexts₀ = contexts₀} h e =
     let (is, count) = ended-is o (sym e ∙ h .answer) in

@@ -56,13 +56,13 @@ parts-prepared {P = P} {links = links} {contexts = contexts} h = record {
 -- ---- a stem table that was grown
 
 module _ (A B : Aut) (S : ℕ) (largest : Bool) {g : Growth} {old new : List ℕ} (h : Held (stemTable A B largest S) old new g) where
-  pub record HoldsStems (n : ℕ) : Type 0 where
+  record HoldsStems (n : ℕ) : Type 0 where
     pub is-ended : stemTable A B largest S ≡ ended (entries (stemTable A B largest S))
     pub count : length (entries (stemTable A B largest S)) ≡ n
     pub part : take (n - 0) new ≡ entries (stemTable A B largest S)
     pub within : n ≤ S
 
-  pub holds-stems : {n : ℕ} → g ≡ Ended n → HoldsStems n
+  holds-stems : {n : ℕ} → g ≡ Ended n → HoldsStems n
   holds-stems {n} e =
       let (is, count) = ended-is (stemTable A B largest S) (sym e ∙ h .answer) in
       let all : n - 0 ≡ length (entries (stemTable A B largest S)) = omega arith in
