@@ -33,8 +33,7 @@ impl Context {
     #[inline]
     pub fn longer(self, moved: &[Target; 256], accepting: Target) -> Context {
         let reach = row_by_row(self.reach, moved);
-        // Where nothing has met acceptance before, all rows are empty.
-        let through = if self.through == 0 { 0 } else { row_by_row(self.through, moved) };
+        let through = row_by_row(self.through, moved);
         Context { reach, through: through | (reach & every_row(accepting)) }
     }
 
