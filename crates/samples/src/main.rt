@@ -1,5 +1,7 @@
 //! Runs document 01's sample models and prints, for each, the nine numbers of its answer (number, which, place, u, w, p, t, and the letters of the
 //! stem and of the period that are shown), and those letters.
+ghost use mathlib.Core.Path.{_≡_};
+ghost use lib.ListN.{length};
 use libc::STDOUT_FILENO;
 use membership::Tested;
 
@@ -49,6 +51,20 @@ fn shown(row: [u64; 9], stem: &[u8], period: &[u8]) {
     word(b" period:", period, row[8] as usize);
 }
 
+// The links and the contexts of as many periods as any sample asks for. The `ensures` give the lengths, which lending an array as a slice needs: of a long
+// array that is a local, the elements are counted one by one when it is checked.
+fn link_table() -> [u32; 65536]
+    ensures { λ r. ⌜ 65536 ≡ length r ⌝ }
+{
+    [0; 65536]
+}
+
+fn context_table() -> [u64; 131072]
+    ensures { λ r. ⌜ 131072 ≡ length r ⌝ }
+{
+    [0; 131072]
+}
+
 // The nine numbers of an answer, with tables that are long enough for every S and P here.
 fn decided(
     model: &[u8],
@@ -60,8 +76,8 @@ fn decided(
 ) -> [u64; 9] {
     let mut smallest = [0u32; 4097];
     let mut largest = [0u32; 4097];
-    let mut links = [0u32; 65536];
-    let mut contexts = [0u64; 131072];
+    let mut links = link_table();
+    let mut contexts = context_table();
     inclusion::numbers(inclusion::decide(
         model,
         rule,
@@ -76,8 +92,7 @@ fn decided(
     ))
 }
 
-// One sample, with a stem output that the caller lends. The period output is a buffer of io's, whose length its contract says: an array of our own is
-// counted element by element when it is checked.
+// One sample, with a stem output that the caller lends.
 fn sample(
     name: &[u8],
     model: &[u8],
