@@ -68,7 +68,8 @@ fn to_front(chains: &mut [u16], state: usize, place: usize)
     chains[state] = next;
 }
 
-// The place after the entry that the place leads to; or the same place, where that entry leaves the chain, since it has all that the candidate has.
+// The place after the entry `next` that the place leads to; or the same place, where that entry leaves the chain, since it has all that the candidate has: the
+// place then leads to what is `after` it.
 fn pass(
     contexts: &[u64],
     chains: &mut [u16],
@@ -90,8 +91,9 @@ fn pass(
 }
 
 // Whether one of the first n entries covers a candidate: the chain of the candidate's state decides it, and the entry that covers comes to its front. An
-// entry that the candidate is contained in leaves the chain: the candidate, or the entry that covers it, covers what that entry covers. `links`, `n`, `link`,
-// `c` and `rows` are not read: they say which entries and which candidate are meant.
+// entry that the candidate is contained in leaves the chain: the candidate, or the entry that covers it, covers what that entry covers. What comes after an
+// entry is read before the entry is tested, so that the next one need not wait for the answer. `links`, `n`, `link`, `c` and `rows` are not read: they say
+// which entries and which candidate are meant.
 fn scan(
     links: &[u32],
     contexts: &[u64],
