@@ -21,19 +21,6 @@ use Rattle.rounds.specs.Finished.{finishOf}
 use Rattle.rounds.specs.Answers.{along, Answers, Ready}
 use Rattle.rounds.proofs.Legible.{through-legible}
 
--- before the first round
-pub ready-first : {room : ℕ} {u links contexts scratch : List ℕ} → length u ≤ 4096 → (room ≤ 65535) × (room ≤ length links) × (2 * room ≤ length contexts)
-    → 2 * (16 + room) ≤ length scratch → length scratch ≤ 131102 → Ready room 0 u links contexts scratch
-ready-first few room fits short = record {
-  stems = few;
-  short = room .0;
-  links-fit = room .1;
-  contexts-fit = room .2;
-  scratch-fits = fits;
-  scratch-short = short;
-  few = omega arith;
-}
-
 -- the tables stay as long as they are
 pub ready-on : {room t m : ℕ} {u links₀ links contexts₀ contexts scratch₀ scratch : List ℕ} → Ready room t u links₀ contexts₀ scratch₀
     → length links ≡ length links₀ → length contexts ≡ length contexts₀ → length scratch ≡ length scratch₀ → m ≤ 2 ^ 50 → Ready room m u links contexts scratch

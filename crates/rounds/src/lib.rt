@@ -227,6 +227,14 @@ fn each_state(
     Rounds::Through { p, t }
 }
 
+// A scratch for every room. The `ensures` gives the length, which lending it as a slice needs: of a long array that is a local, the elements are counted one
+// by one when it is checked.
+fn large_scratch() -> [u16; 131102]
+    ensures { λ r. ⌜ 131102 ≡ length r ⌝ }
+{
+    [0; 131102]
+}
+
 // The rounds of each state, in a scratch that is large enough for the room. Most calls do with a small one, which takes less time to set up; it has
 // places for twice the entries, so that there are enough guesses.
 pub fn all(
@@ -260,7 +268,7 @@ pub fn all(
             rule_head,
         );
     }
-    let mut large = [0u16; 131102];
+    let mut large = large_scratch();
     each_state(
         stems,
         largest,
