@@ -1,9 +1,8 @@
-//! Runs document 01's sample models and prints, for each, the nine numbers of its answer (number, which, place, u, w, p, t, and the letters of the
-//! stem and of the period that are shown), and those letters.
+//! Runs document 01's sample models of the entry point, M1 to M7 and M10 to M13, and prints for each its name, S and P, the nine numbers of its answer
+//! (number, which, place, u, w, p, t, and the letters of the stem and of the period that are shown), and those letters.
 ghost use mathlib.Core.Path.{_≡_};
 ghost use lib.ListN.{length};
 use libc::STDOUT_FILENO;
-use membership::Tested;
 
 fn text(bytes: &[u8]) {
     io::write_all(STDOUT_FILENO, bytes);
@@ -92,9 +91,20 @@ fn decided(
     ))
 }
 
+// The name of a sample, and its room: numbers, which are cheaper to check than a text for each.
+fn heading(sample: u64, stem_room: usize, period_room: usize) {
+    text(b"M");
+    io::print_decimal(STDOUT_FILENO, sample);
+    text(b" S =");
+    number(stem_room as u64);
+    text(b", P =");
+    number(period_room as u64);
+    text(b":");
+}
+
 // One sample, with a stem output that the caller lends.
-fn sample(
-    name: &[u8],
+fn lent(
+    sample: u64,
     model: &[u8],
     rule: &[u8],
     stem_room: usize,
@@ -103,117 +113,79 @@ fn sample(
 ) {
     let mut period = io::large_buffer();
     let row = decided(model, rule, stem_room, period_room, stem, &mut period);
-    text(name);
+    heading(sample, stem_room, period_room);
     numbers(row);
     shown(row, stem, &period);
 }
 
 // One sample, with a stem output that is long enough.
-fn decide(name: &[u8], model: &[u8], rule: &[u8], stem_room: usize, period_room: usize) {
+fn decide(sample: u64, model: &[u8], rule: &[u8], stem_room: usize, period_room: usize) {
     let mut stem = [0u8; 4097];
-    sample(name, model, rule, stem_room, period_room, &mut stem);
-}
-
-fn told(answer: Tested) {
-    match answer {
-        Tested::Accepted => text(b" accepted\n"),
-        Tested::Rejected => text(b" rejected\n"),
-        Tested::Refused(_) => text(b" refused\n"),
-    }
-}
-
-// A lasso of an empty stem and a period of one letter.
-fn lasso(name: &[u8], records: &[u8]) {
-    text(name);
-    told(membership::test(records, b"", b"\0"));
+    lent(sample, model, rule, stem_room, period_room, &mut stem);
 }
 
 // M1 to M3: verdicts.
 fn verdicts(all: &[u8], often: &[u8]) {
-    decide(b"M1", all, often, 4096, 2048);
-    decide(b"M2", often, all, 4096, 2048);
-    decide(b"M3", often, often, 4096, 2048);
+    decide(1, all, often, 4096, 2048);
+    decide(2, often, all, 4096, 2048);
+    decide(3, often, often, 4096, 2048);
 }
 
 // One sample under a rule that accepts nothing.
-fn under_nothing(name: &[u8], model: &[u8]) {
-    decide(name, model, b"I\0\0\0", 4096, 2048);
+fn under_nothing(sample: u64, model: &[u8]) {
+    decide(sample, model, b"I\0\0\0", 4096, 2048);
 }
 
 // M4 and M5: no accepting state, and one.
 fn accepting() {
-    under_nothing(b"M4", b"I\0\0\0T\0\0\0");
-    under_nothing(b"M5", b"I\0\0\0T\0\0\0F\0\0\0");
+    under_nothing(4, b"I\0\0\0T\0\0\0");
+    under_nothing(5, b"I\0\0\0T\0\0\0F\0\0\0");
 }
 
 // M6 and M7: room.
 fn room(all: &[u8], often: &[u8]) {
-    decide(b"M6 S=1", all, often, 1, 2048);
-    decide(b"M6 S=2", all, often, 2, 2048);
-    decide(b"M7 P=1", all, often, 4096, 1);
-    decide(b"M7 P=2", all, often, 4096, 2);
+    decide(6, all, often, 1, 2048);
+    decide(6, all, often, 2, 2048);
+    decide(7, all, often, 4096, 1);
+    decide(7, all, often, 4096, 2);
 }
 
-// M13: a stem output that is too short.
-fn short(all: &[u8], often: &[u8]) {
-    let mut stem = [0u8; 4095];
-    sample(
-        b"M13 stem output of S - 1",
-        all,
-        often,
-        4096,
-        2048,
-        &mut stem,
-    );
-}
-
-// M13: room out of range, and too little lent.
-fn limits(all: &[u8], often: &[u8]) {
-    decide(b"M13 S=0", all, often, 0, 2048);
-    decide(b"M13 S=4097", all, often, 4097, 2048);
-    decide(b"M13 P=65536", all, often, 4096, 65536);
-    short(all, often);
-}
-
-// M8 and M9: lassos.
-fn lassos() {
-    lasso(b"M8", b"I\0\0\0F\x01\0\0T\0\0\x01T\x01\0\0");
-    lasso(b"M9", b"I\0\0\0F\0\0\0T\0\0\x01T\x01\0\x01");
-}
-
-// M10: a model's largest state.
+// M10: a model's largest state, and one more.
 fn model_states() {
-    under_nothing(b"M10 I 15", b"I\x0f\0\0");
-    under_nothing(b"M10 I 16", b"I\x10\0\0");
+    under_nothing(10, b"I\x0f\0\0");
+    under_nothing(10, b"I\x10\0\0");
 }
 
-// M11: a rule's largest state.
+// M11: a rule's largest state, and one more.
 fn rule_states() {
     let start = b"I\0\0\0";
-    decide(b"M11 I 7", start, b"I\x07\0\0", 4096, 2048);
-    decide(b"M11 I 8", start, b"I\x08\0\0", 4096, 2048);
+    decide(11, start, b"I\x07\0\0", 4096, 2048);
+    decide(11, start, b"I\x08\0\0", 4096, 2048);
 }
 
 // M12: files without a whole record.
 fn cut_short() {
-    under_nothing(b"M12 empty", b"");
-    under_nothing(b"M12 three bytes", b"I\0\0");
+    under_nothing(12, b"");
+    under_nothing(12, b"I\0\0");
 }
 
-// The samples of M1's pair of files, and M4 and M5 between them.
-fn first_samples() {
+// M13: room out of range, and a stem output that is too short.
+fn limits(all: &[u8], often: &[u8]) {
+    decide(13, all, often, 0, 2048);
+    decide(13, all, often, 4097, 2048);
+    decide(13, all, often, 4096, 65536);
+    let mut short = [0u8; 4095];
+    lent(13, all, often, 4096, 2048, &mut short);
+}
+
+fn main() {
     let all = b"I\0\0\0F\0\0\0T\0\0\0T\0\x01\0";
     let often = b"I\0\0\0F\x01\0\0T\0\0\x01T\0\x01\0T\x01\0\x01T\x01\x01\0";
     verdicts(all, often);
     accepting();
     room(all, often);
-    limits(all, often);
-}
-
-fn main() {
-    first_samples();
-    lassos();
     model_states();
     rule_states();
     cut_short();
+    limits(all, often);
 }
