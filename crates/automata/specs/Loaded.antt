@@ -24,6 +24,10 @@ autOf rows head = record {
   mark = λ p x q. false;
 }
 
+-- the steps of a table alone: where the automaton starts and what it accepts does not matter
+abbrev pub stepsOf : List (List ℕ) → Aut
+stepsOf table = autOf (cell table) (record { states = 0; start = 0; accepting = 0 })
+
 abbrev pub ofPairs : Pairs8 → Context
 ofPairs c = record { reach = c .reach; through = c .through }
 

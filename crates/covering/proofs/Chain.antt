@@ -1,15 +1,13 @@
 -- The chains of a table: what a write leaves of those of other states, and the chains with one entry more. Assumes nothing.
 use mathlib.Core.Path.{_≡_, refl, sym, ap, ap₂, _∙_, subst}
 use mathlib.Core.Bool.{Bool, true, false, _||_, or-false, false≢true}
-use mathlib.Core.Logic.{⊎-elim}
 use mathlib.Core.List.{List, [], _∷_, _++_, map}
 use Prim.Native.Nat.{ℕ, zero, suc, _+_, _≤_, _<_}
-use native.Mathlib.Nat.{eq-or-lt-of-le}
 use native.Mathlib.Omega.{arith}
 use borrow.Author.Tests.{eqb-true, eqb-false}
 use lib.Dec.{eqb}
 use lib.ListN.{length, getD, set, length-append, List·getD-append}
-use lib.Seq.{getD-set-same, getD-set-other, getD-append-seam}
+use lib.Seq.{getD-set-other, getD-append-seam}
 use Rattle.bits.specs.Fields.{linkState}
 use Rattle.bits.proofs.Truth.{false-from}
 use Rattle.growth.specs.Grow.{covered}
@@ -20,18 +18,8 @@ use Rattle.covering.proofs.Runs.{times-here, times-later, times-other, 
 
 -- ---- no entry
 
--- a chain more is cleared
-pub cleared : {k : ℕ} {chains : List ℕ} → Cleared k chains → k < length chains → Cleared (k + 1) (set chains k 0)
-cleared {k} {chains} c l = record { none = λ q h. ⊎-elim (here q) (there q) (eq-or-lt-of-le (omega arith)) }
-  where
-    here : (q : ℕ) → q ≡ k → getD (set chains k 0) q 0 ≡ 0
-    here q e = ap (λ (j : ℕ). getD (set chains k 0) j 0) e ∙ getD-set-same chains k 0 0 l
-
-    there : (q : ℕ) → q < k → getD (set chains k 0) q 0 ≡ 0
-    there q h = getD-set-other chains k q 0 0 (λ e. omega arith) ∙ c .none q h
-
 module _ (covers : Period → Period → Bool) where
-  pub chained-none : {chains : List ℕ} → Cleared 16 chains → Chained covers [] [] chains
+  pub chained-none : {chains : List ℕ} → Cleared chains → Chained covers [] [] chains
   unfolding times
   chained-none c = record {
     at = λ q h. record {

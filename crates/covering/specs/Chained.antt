@@ -37,9 +37,9 @@ pub record Chain (covers : Period → Period → Bool) (t gone : List Period) (c
 pub record Chained (covers : Period → Period → Bool) (t gone : List Period) (chains : List ℕ) : Type 0 where
   pub at : (q : ℕ) → q < 16 → Chain covers t gone chains q
 
--- no entry is chained at the states below k
-pub record Cleared (k : ℕ) (chains : List ℕ) : Type 0 where
-  pub none : (q : ℕ) → q < k → getD chains q 0 ≡ 0
+-- no entry is chained
+pub record Cleared (chains : List ℕ) : Type 0 where
+  pub none : (q : ℕ) → q < 16 → getD chains q 0 ≡ 0
 
 -- the entry after the place p comes first in the chain of the state q
 unfoldable pub toFront : List ℕ → (q p : ℕ) → List ℕ

@@ -1,6 +1,6 @@
 -- One step of the search over the pairs: a stem or a period that is passed over, and a test. Assumes nothing.
 use mathlib.Core.Path.{_≡_, refl, sym, ap, _∙_}
-use mathlib.Core.Bool.{Bool, true, false, _&&_, true≢false}
+use mathlib.Core.Bool.{Bool, true, false, cond, _&&_, true≢false}
 use mathlib.Core.List.{List, [], _∷_, _++_}
 use Prim.Native.Nat.{ℕ, _+_, _-_, _*_, _≤_, _<_}
 use native.Mathlib.Nat.{add-mul, one-mul, mul-le-mul-right, mul-le-mul-left}
@@ -17,20 +17,27 @@ use Rattle.automata.specs.Repeated.{repeated}
 use Rattle.covering.specs.Entries.{contextIn}
 use Rattle.lassos.specs.declared.Found.the-variants.{Passed, Rejected}
 use Rattle.walk.specs.Walk.{passed, rejected, search, fits, pairsOf}
-use Rattle.lassos.specs.Pairs.{foundOf, meeting, Accepting, Few}
+use Rattle.lassos.specs.Pairs.{foundOf, meeting, Few}
 use Rattle.growth.proofs.Gathered.{gather-all, gather-next, gather-past, gather-over, gather-nothing}
 
 -- ---- the sets of the periods
 
-module _ {s j : ℕ} {links contexts sets : List ℕ} (known : Accepting s j links contexts sets) where
-  pub put-none : eqb (linkState (getD links j 0)) s ≡ false → Accepting s (j + 1) links contexts sets
-  put-none h = record { set-at = below-more (λ (k : ℕ). eqb (linkState (getD links k 0)) s ≡ true → getD sets k 0 ≡ repeated 8 (contextIn contexts k)) j (known .set-at) (λ t. absurd (true≢false (sym t ∙ h))) }
+module _ (s : ℕ) (links contexts : List ℕ) where
+  -- the set of the period at j is there, if it is at s
+  abbrev pub SetAt : List ℕ → ℕ → Type 0
+  SetAt sets j = eqb (linkState (getD links j 0)) s ≡ true → getD sets j 0 ≡ repeated 8 (contextIn contexts j)
 
-  pub put-one : {x : ℕ} → j < length sets → x ≡ repeated 8 (contextIn contexts j) → Accepting s (j + 1) links contexts (set sets j x)
-  put-one {x} l e = record {
-    set-at = below-more (λ (k : ℕ). eqb (linkState (getD links k 0)) s ≡ true → getD (set sets j x) k 0 ≡ repeated 8 (contextIn contexts k)) j
-        (λ k m t. getD-set-other sets j k x 0 (λ i. omega arith) ∙ known .set-at k m t) (λ t. getD-set-same sets j x 0 l ∙ e);
-  }
+  -- one set more
+  pub put-more : {j : ℕ} (sets : List ℕ) → j < length sets → ((k : ℕ) → k < j → SetAt sets k)
+      → (k : ℕ) → k < j + 1 → SetAt (cond (eqb (linkState (getD links j 0)) s) (set sets j (repeated 8 (contextIn contexts j))) sets) k
+  put-more {j} sets l known = at (eqb (linkState (getD links j 0)) s) refl
+    where
+      x : ℕ
+      x = repeated 8 (contextIn contexts j)
+
+      at : (b : Bool) → eqb (linkState (getD links j 0)) s ≡ b → (k : ℕ) → k < j + 1 → SetAt (cond b (set sets j x) sets) k
+      at true e = below-more (SetAt (set sets j x)) j (λ k m t. getD-set-other sets j k x 0 (λ i. omega arith) ∙ known k m t) (λ t. getD-set-same sets j x 0 l)
+      at false e = below-more (SetAt sets) j known (λ t. absurd (true≢false (sym t ∙ e)))
 
 -- ---- the tests
 

@@ -21,7 +21,7 @@ search-same f g (c ∷ cs) t h =
     (search-same f g cs (suc t) (λ d m. h d (List·Memᴰ·tail m)))
 
 -- the sets that are put are those of the periods that are tested
-pub sets-serve : (u : List ℕ) (s rows : ℕ) (links : List ℕ) {contexts sets : List ℕ} (t : ℕ) → Accepting s (length links) links contexts sets
+pub sets-serve : (u : List ℕ) (s rows : ℕ) (links : List ℕ) {contexts sets : List ℕ} (t : ℕ) → Accepting s links contexts sets
     → search (meeting u sets) (pairsOf u s rows links) t ≡ search (accepts u contexts) (pairsOf u s rows links) t
 unfolding meeting accepts pairsOf
 sets-serve u s rows links {contexts} {sets} t known = search-same (meeting u sets) (accepts u contexts) (pairsOf u s rows links) t same

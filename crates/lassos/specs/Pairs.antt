@@ -22,9 +22,9 @@ foundOf (rejected t i j) = Rejected t i j
 unfoldable pub meeting : List ℕ → List ℕ → ℕ → ℕ → Bool
 meeting u sets i j = meets 8 (stemTarget (getD u i 0)) (getD sets j 0)
 
--- the sets of the first n periods, where they are at s
-pub record Accepting (s n : ℕ) (links contexts sets : List ℕ) : Type 0 where
-  pub set-at : (j : ℕ) → j < n → eqb (linkState (getD links j 0)) s ≡ true → getD sets j 0 ≡ repeated 8 (contextIn contexts j)
+-- the sets of the periods at s
+pub record Accepting (s : ℕ) (links contexts sets : List ℕ) : Type 0 where
+  pub set-at : (j : ℕ) → j < length links → eqb (linkState (getD links j 0)) s ≡ true → getD sets j 0 ≡ repeated 8 (contextIn contexts j)
 
 -- as many stems and periods as the tables hold at most, and so few tests before that the count fits
 pub record Few (u links sets : List ℕ) (before : ℕ) : Type 0 where

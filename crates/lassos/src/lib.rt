@@ -1,9 +1,13 @@
 //! The lassos of one round: each stem at s with target inside w's, with each period at s, tested in order up to the first rejected one.
 ghost use mathlib.Core.Path.{_≡_};
+ghost use mathlib.Core.Bool.{cond};
 ghost use Prim.Native.Nat.{_+_, _*_, _<_, _≤_};
-ghost use lib.ListN.{length};
+ghost use lib.Dec.{eqb};
+ghost use lib.ListN.{length, getD, set};
 ghost use Rattle.bits.specs.Sets.{meets};
-ghost use Rattle.bits.specs.Fields.{stemTarget};
+ghost use Rattle.bits.specs.Fields.{stemTarget, linkState};
+ghost use Rattle.automata.specs.Repeated.{repeated};
+ghost use Rattle.covering.specs.Entries.{contextIn};
 ghost use Rattle.walk.specs.Walk.{search, fits, pairsOf, accepts};
 ghost use Rattle.lassos.specs.Pairs.{foundOf, meeting, Accepting, Few};
 use automata::Pairs8;
@@ -23,9 +27,8 @@ pub enum Found {
 
 // Puts the set of the period at j in its place, if the period is at s: a test then needs no more than the set.
 fn put_set(links: &[u32], contexts: &[u64], s: u8, sets: &mut [u16], j: usize)
-    requires { ⌜ Accepting s j (now links) (now contexts) (now sets) ⌝ }
     requires { ⌜ (j < length (now links)) × (j < length (now sets)) × (2 * j + 1 < length (now contexts)) ⌝ }
-    ensures { λ _. ⌜ Accepting s (j + 1) (now (links .entry)) (now (contexts .entry)) (now (sets .exit)) ⌝ }
+    ensures { λ _. ⌜ now (sets .exit) ≡ cond (eqb (linkState (getD (now (links .entry)) j 0)) s) (set (now (sets .entry)) j (repeated 8 (contextIn (now (contexts .entry)) j))) (now (sets .entry)) ⌝ }
 {
     if entries::link_state(links[j]) != s {
         return;
@@ -39,7 +42,7 @@ fn put_set(links: &[u32], contexts: &[u64], s: u8, sets: &mut [u16], j: usize)
 // The sets of all periods at s, each found once.
 fn put_sets(links: &[u32], contexts: &[u64], s: u8, sets: &mut [u16])
     requires { ⌜ (length (now links) ≤ length (now sets)) × (2 * length (now links) ≤ length (now contexts)) ⌝ }
-    ensures { λ _. ⌜ Accepting s (length (now (links .entry))) (now (links .entry)) (now (contexts .entry)) (now (sets .exit)) ⌝ }
+    ensures { λ _. ⌜ Accepting s (now (links .entry)) (now (contexts .entry)) (now (sets .exit)) ⌝ }
 {
     let mut j = 0;
     while j < links.len() {

@@ -28,7 +28,7 @@ never e = let z : _≡_ {A = ℕ} 0 1 = cc in omega arith
 
 -- with no entry there are no chains
 pub ready-none : (covers : Period → Period → Bool) {room : ℕ} {links contexts chains : List ℕ} → room ≤ 65535 → room ≤ length links → 2 * room ≤ length contexts
-    → 2 * (16 + room) ≤ length chains → length chains ≤ 131102 → Cleared 16 chains → Ready covers room 0 links contexts chains
+    → 2 * (16 + room) ≤ length chains → length chains ≤ 131102 → Cleared chains → Ready covers room 0 links contexts chains
 unfolding held values
 ready-none covers s l c f h e =
     record { roomy = record { within = omega arith; small = s; links-fit = l; contexts-fit = c; chains-fit = f; chains-short = h }; chained = chained-none covers e }

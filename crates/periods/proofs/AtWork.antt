@@ -14,7 +14,7 @@ use Rattle.growth.specs.Grow.{entries, append, offer, grow, table}
 use Rattle.growth.specs.Steps.{gather, steps}
 use Rattle.growth.specs.Tables.{contained}
 use Rattle.covering.specs.Entries.{Period, periodCovers}
-use Rattle.periods.specs.Periods.{periodFirst, periodNext, periodTable}
+use Rattle.periods.specs.Periods.{periodFirst, wordNext, periodNext, periodTable}
 
 -- letter 0 leads to state 0, letter 1 from state 0 to state 1
 abbrev model : Aut
@@ -30,5 +30,5 @@ linksOn rows = map (λ (e : Period). e .link) (entries (periodTable model rule 0
 -- by states, letters, parents: the period 1 0 differs from 0 on the row of state 1 alone; on no rows each state of A has one period
 pub periods-kept : (linksOn 0 ≡ periodLink 0 0 65535 ∷ periodLink 1 1 65535 ∷ []) × (linksOn 1 ≡ periodLink 0 0 65535 ∷ periodLink 1 1 65535 ∷ [])
     × (linksOn 3 ≡ periodLink 0 0 65535 ∷ periodLink 1 1 65535 ∷ periodLink 0 0 1 ∷ [])
-unfolding digit pack bit weight setOf any all subset movesTo moved row pairs containedOn opens movedBy passesBy throughBy idle longer append offer grow table gather steps contained periodCovers periodFirst periodNext periodTable
+unfolding digit pack bit weight setOf any all subset movesTo moved row pairs containedOn opens movedBy passesBy throughBy idle longer append offer grow table gather steps contained periodCovers periodFirst wordNext periodNext periodTable
 periods-kept = (refl, refl, refl)

@@ -20,11 +20,11 @@ use Rattle.growth.proofs.Built.{Inherited}
 use Rattle.growth.proofs.Carried.{mapped, table-map}
 use Rattle.automata.specs.declared.Head.{Head}
 use Rattle.automata.specs.declared.Pairs8.{Pairs8}
-use Rattle.automata.specs.Loaded.{cell, autOf, ofPairs}
+use Rattle.automata.specs.Loaded.{cell, autOf, stepsOf, ofPairs}
 use Rattle.covering.specs.Entries.{Period, periodCovers}
-use Rattle.periods.specs.Periods.{periodFirst, periodNext, periodTable}
+use Rattle.periods.specs.Periods.{periodFirst, wordNext, periodNext, periodTable}
 use Rattle.covering.specs.Masks.{covers}
-use Rattle.periods.specs.Candidates.{atState, atLetter, candidates, ofEntry}
+use Rattle.periods.specs.Candidates.{atState, atLetter}
 use Rattle.covering.proofs.Masks.{covers-contained}
 use Rattle.periods.proofs.Loop.{gather-none}
 
@@ -43,16 +43,21 @@ unfolding atLetter cell
 letter-none model B p parent c x e =
     gather-none (λ q. only (bit (cell model x p) q) (record { link = periodLink q x parent; context = longer 8 B c x })) 0 16 (λ q l. rw (e, bit-zero))
 
--- the word of an entry has the entry's
-pub word-entry : (model : List (List ℕ)) (B : Aut) (e : Period) {p parent i : ℕ} {c : Context} → p ≡ linkState (e .link) → parent ≡ i → c ≡ e .context
-    → candidates model B p parent c ≡ ofEntry model B i e
-unfolding ofEntry
-word-entry model B e {parent = parent} {i} {c} s j d =
-    ap₂ (λ (p : ℕ) (d : Context). candidates model B p parent d) s d ∙ ap (λ (k : ℕ). candidates model B (linkState (e .link)) k (e .context)) j
+-- all letters
+pub letters-all : (model : List (List ℕ)) (B : Aut) (p parent : ℕ) (c : Context) → wordNext (stepsOf model) B p parent c ≡ gather 0 16 (atLetter model B p parent c)
+unfolding wordNext steps atLetter autOf
+letters-all model B p parent c = refl
 
-pub entry-next : (model : List (List ℕ)) (head : Head) (B : Aut) → ofEntry model B ≡ periodNext (autOf (cell model) head) B
-unfolding periodNext steps ofEntry candidates atLetter autOf
-entry-next model head B = refl
+-- the word of an entry has the entry's candidates
+pub word-entry : (A B : Aut) (e : Period) {p parent i : ℕ} {c : Context} → p ≡ linkState (e .link) → parent ≡ i → c ≡ e .context → wordNext A B p parent c ≡ periodNext A B i e
+unfolding periodNext
+word-entry A B e {parent = parent} {i} {c} s j d =
+    ap₂ (λ (p : ℕ) (d : Context). wordNext A B p parent d) s d ∙ ap (λ (k : ℕ). wordNext A B (linkState (e .link)) k (e .context)) j
+
+-- where the model starts and what it accepts does not matter
+pub heads-apart : (model : List (List ℕ)) (head : Head) (B : Aut) → periodNext (stepsOf model) B ≡ periodNext (autOf (cell model) head) B
+unfolding periodNext wordNext autOf
+heads-apart model head B = refl
 
 -- from an accepting state a period may start by every transition
 pub accepting-opens : (A : Aut) (s x q : ℕ) → A .final s ≡ true → opens A s x q ≡ true
@@ -61,8 +66,8 @@ accepting-opens A s x q h = or-left (A .final s) (A .mark s x q) h
 
 -- so that the one-letter words are the candidates of the empty word, by each transition
 pub first-letters : (model : List (List ℕ)) (head : Head) (B : Aut) (s : ℕ) → bit (head .accepting) s ≡ true
-    → candidates model B s 65535 (idle 8 (B .final)) ≡ periodFirst (autOf (cell model) head) B s
-unfolding periodFirst steps candidates atLetter autOf
+    → wordNext (stepsOf model) B s 65535 (idle 8 (B .final)) ≡ periodFirst (autOf (cell model) head) B s
+unfolding periodFirst wordNext autOf
 first-letters model head B s h =
     let A = autOf (cell model) head in
     sym (steps-same 16 16 (λ x q. A .step s x q && opens A s x q) (λ x q. A .step s x q)
@@ -83,7 +88,7 @@ module _ (A B : Aut) (s target room : ℕ) where
   Bounded e = Fits 8 (e .context)
 
   bounded : Inherited Bounded (periodNext A B) (periodFirst A B s)
-  unfolding periodFirst periodNext
+  unfolding periodFirst periodNext wordNext
   bounded =
       record {
         good-first = λ c m.
@@ -110,12 +115,12 @@ module _ (A B : Aut) (s target room : ℕ) where
 
 module _ (model rule : List (List ℕ)) (model-head rule-head : Head) (s target room : ℕ) where
   pub table-period : {rows : ℕ} {c : Context} → bit (model-head .accepting) s ≡ true → rows ≡ rowsOf 8 target → c ≡ idle 8 (bit (rule-head .accepting % 256))
-      → table (covers rows) (ofEntry model (autOf (cell rule) rule-head)) room (candidates model (autOf (cell rule) rule-head) s 65535 c)
+      → table (covers rows) (periodNext (stepsOf model) (autOf (cell rule) rule-head)) room (wordNext (stepsOf model) (autOf (cell rule) rule-head) s 65535 c)
       ≡ periodTable (autOf (cell model) model-head) (autOf (cell rule) rule-head) s target room
   unfolding autOf
   table-period {c = c} accepts same empty =
       let B = autOf (cell rule) rule-head in
-      ap₂ (λ (r : ℕ) (d : Context). table (covers r) (ofEntry model B) room (candidates model B s 65535 d)) same (empty ∙ idle-low (rule-head .accepting))
+      ap₂ (λ (r : ℕ) (d : Context). table (covers r) (periodNext (stepsOf model) B) room (wordNext (stepsOf model) B s 65535 d)) same (empty ∙ idle-low (rule-head .accepting))
       ∙ ap₂ (λ (next : ℕ → Period → List Period) (first : List Period). table (covers (rowsOf 8 target)) next room first)
-      (entry-next model model-head B) (first-letters model model-head B s accepts)
+      (heads-apart model model-head B) (first-letters model model-head B s accepts)
       ∙ table-masked (autOf (cell model) model-head) B s target room

@@ -22,7 +22,7 @@ use Rattle.growth.proofs.Linked.{Linked, starting, following, linked}
 use Rattle.growth.proofs.Packing.{Fits, Read, packed-table, fits-entries, complete-mapped, mapped-complete, mapped-length}
 use Rattle.growth.proofs.Periods.{periods-fit, periods-end, all-rows}
 use Rattle.covering.specs.Entries.{Period, periodCovers}
-use Rattle.periods.specs.Periods.{periodFirst, periodNext, periodTable}
+use Rattle.periods.specs.Periods.{periodFirst, wordNext, periodNext, periodTable}
 
 -- an entry without its word
 pack : ℕ → Context → ℕ → ℕ → Period
@@ -70,7 +70,7 @@ module _ (A B : Aut) (s rows room : ℕ) where
   first-packed = map-steps periodPacked 16 16 (λ x q. A .step s x q && opens A s x q) (child (longer 8 B) 65535 (seed (idle 8 (B .final)) s))
 
   pub period-packed : periodTable A B s rows room ≡ mapped periodPacked (periodWords A B s rows room)
-  unfolding periodTable periodCovers periodNext periodNodes pack
+  unfolding periodTable periodCovers wordNext periodNext periodNodes pack
   period-packed = ap (table (periodCovers rows) (periodNext A B) room) (sym first-packed)
       ∙ packed-table pack stateOf contextOf A (longer 8 B) (λ c x h. tt) period-read fits-first (contained 8 rows) room
 

@@ -1,8 +1,8 @@
--- The candidates as the loops take them: at a state, by a letter, of a word, of an entry. Assumes nothing.
+-- The candidates at a state, and those that one letter gives. Assumes nothing.
 use mathlib.Core.List.{List}
 use Prim.Native.Nat.{ℕ}
 use Rattle.bits.specs.Bits.{bit}
-use Rattle.bits.specs.Fields.{periodLink, linkState}
+use Rattle.bits.specs.Fields.{periodLink}
 use Rattle.acceptance.specs.Lasso.{Aut}
 use Rattle.acceptance.specs.Contexts.{Context, longer}
 use Rattle.growth.specs.Steps.{gather, only}
@@ -17,11 +17,3 @@ atState by q = only (bit (by .successors) q) (record { link = periodLink q (by .
 -- by the letter x, of a word that leads to the state p with the context c; `table` has A's transitions
 unfoldable pub atLetter : List (List ℕ) → Aut → (p parent : ℕ) → Context → ℕ → List Period
 atLetter table B p parent c x = gather 0 16 (λ q. only (bit (cell table x p) q) (record { link = periodLink q x parent; context = longer 8 B c x }))
-
--- of that word, letters rising
-unfoldable pub candidates : List (List ℕ) → Aut → (p parent : ℕ) → Context → List Period
-candidates table B p parent c = gather 0 16 (atLetter table B p parent c)
-
--- of the entry e at index i
-unfoldable pub ofEntry : List (List ℕ) → Aut → ℕ → Period → List Period
-ofEntry table B i e = candidates table B (linkState (e .link)) i (e .context)

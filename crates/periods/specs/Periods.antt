@@ -5,7 +5,7 @@ use mathlib.Core.List.{List}
 use Prim.Native.Nat.{ℕ}
 use Rattle.bits.specs.Fields.{periodLink, linkState}
 use Rattle.acceptance.specs.Lasso.{Aut, opens}
-use Rattle.acceptance.specs.Contexts.{idle, longer}
+use Rattle.acceptance.specs.Contexts.{Context, idle, longer}
 use Rattle.growth.specs.Grow.{Outcome, table}
 use Rattle.growth.specs.Steps.{steps}
 use Rattle.covering.specs.Entries.{Period, periodCovers}
@@ -16,10 +16,13 @@ module _ (A B : Aut) where
   periodFirst s =
       steps 16 16 (λ x q. A .step s x q && opens A s x q) (λ x q. record { link = periodLink q x 65535; context = longer 8 B (idle 8 (B .final)) x })
 
-  -- the candidates of the entry e at index i: letters rising, then successor states rising
+  -- the candidates of a word at index i that leads to p with the context c: letters rising, then successor states rising
+  unfoldable pub wordNext : (p i : ℕ) → Context → List Period
+  wordNext p i c = steps 16 16 (λ x q. A .step p x q) (λ x q. record { link = periodLink q x i; context = longer 8 B c x })
+
+  -- those of the entry e at index i
   unfoldable pub periodNext : ℕ → Period → List Period
-  periodNext i e =
-      steps 16 16 (λ x q. A .step (linkState (e .link)) x q) (λ x q. record { link = periodLink q x i; context = longer 8 B (e .context) x })
+  periodNext i e = wordNext (linkState (e .link)) i (e .context)
 
   -- the table of s, compared on the rows of a target, with room for so many entries
   unfoldable pub periodTable : (s rows room : ℕ) → Outcome Period

@@ -7,12 +7,13 @@ ghost use Rattle.bits.specs.Bits.{bit};
 ghost use Rattle.bits.specs.Fields.{linkState};
 ghost use Rattle.growth.specs.Grow.{append, offer, table};
 ghost use Rattle.growth.specs.Steps.{gather};
-ghost use Rattle.automata.specs.Loaded.{cell, autOf, ofPairs};
+ghost use Rattle.automata.specs.Loaded.{cell, autOf, stepsOf, ofPairs};
 ghost use Rattle.covering.specs.Entries.{contextIn, held};
 ghost use Rattle.covering.specs.Masks.{covers};
 ghost use Rattle.covering.specs.Chained.{Cleared};
+ghost use Rattle.periods.specs.Periods.{wordNext, periodNext};
 ghost use Rattle.periods.specs.Growing.{Roomy, Ready, Grows, Appends};
-ghost use Rattle.periods.specs.Candidates.{atState, atLetter, candidates, ofEntry};
+ghost use Rattle.periods.specs.Candidates.{atState, atLetter};
 use automata::Head;
 use automata::Pairs8;
 use automata::eight;
@@ -37,7 +38,7 @@ struct Move {
 // The chains of no entry: only their sixteen beginnings are set back.
 pub fn clear(chains: &mut [u16])
     requires { ⌜ 16 ≤ length (now chains) ⌝ }
-    ensures { λ r. ⌜ Cleared 16 (now (chains .exit)) ⌝ }
+    ensures { λ r. ⌜ Cleared (now (chains .exit)) ⌝ }
 {
     let mut q = 0usize;
     while q < 16 {
@@ -159,7 +160,7 @@ fn expand(
     requires { ⌜ word .state < 16 ⌝ }
     requires { ⌜ Ready (covers rows) room n (now links) (now contexts) (now chains) ⌝ }
     ensures { λ r. ⌜ Grows (covers rows) (offer (covers rows) room (held n (now (links .entry)) (now (contexts .entry)))
-        (candidates (now (model .entry)) (autOf (cell (now (rule .entry))) head) (word .state) (word .parent) (ofPairs (word .context)))) r
+        (wordNext (stepsOf (now (model .entry))) (autOf (cell (now (rule .entry))) head) (word .state) (word .parent) (ofPairs (word .context)))) r
         (now (links .entry)) (now (links .exit)) (now (contexts .entry)) (now (contexts .exit)) (now (chains .exit)) ⌝ }
 {
     let mut count = n;
@@ -209,8 +210,8 @@ pub fn build(
 ) -> Growth
     requires { ⌜ first .state < 16 ⌝ }
     requires { ⌜ Ready (covers rows) room 0 (now links) (now contexts) (now chains) ⌝ }
-    ensures { λ r. ⌜ Grows (covers rows) (table (covers rows) (ofEntry (now (model .entry)) (autOf (cell (now (rule .entry))) head)) room
-        (candidates (now (model .entry)) (autOf (cell (now (rule .entry))) head) (first .state) (first .parent) (ofPairs (first .context)))) r
+    ensures { λ r. ⌜ Grows (covers rows) (table (covers rows) (periodNext (stepsOf (now (model .entry))) (autOf (cell (now (rule .entry))) head)) room
+        (wordNext (stepsOf (now (model .entry))) (autOf (cell (now (rule .entry))) head) (first .state) (first .parent) (ofPairs (first .context)))) r
         (now (links .entry)) (now (links .exit)) (now (contexts .entry)) (now (contexts .exit)) (now (chains .exit)) ⌝ }
 {
     let mut word = first;

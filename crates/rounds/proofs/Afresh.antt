@@ -17,10 +17,11 @@ use Rattle.rounds.specs.declared.Rounds.{Rounds}
 use Rattle.rounds.specs.declared.Rounds.the-variants.{Lacking}
 use Rattle.walk.specs.Words.{stemWord, periodWord}
 use Rattle.walk.specs.Walk.{shown, periodsFull, Search, passed, rejected, search, pairsOf, accepts, searchRound}
-use Rattle.walk.proofs.Runs.{lacking, going, found, runs, run-is}
+use Rattle.walk.proofs.Runs.{done, lacking, going, found, run-is}
 use Rattle.lassos.specs.declared.Found.{Found as Tested}
 use Rattle.lassos.specs.Pairs.{foundOf, Few}
-use Rattle.rounds.specs.Answers.{answered, Answers, Ready}
+use Rattle.rounds.specs.Finished.{Finished}
+use Rattle.rounds.specs.Round.{answered, Ready}
 use Rattle.walk.proofs.Cut.{periods}
 use Rattle.rounds.proofs.Legible.{through-legible, lacking-legible, found-legible}
 
@@ -71,7 +72,7 @@ module _ (A B : Aut) (room s rows : ℕ) {g : Growth} {links₀ links contexts�
   -- one round, and what it answers
   pub ended-ran : (u : List ℕ) (p t : ℕ) → room ≤ 65535 → {n : ℕ} {r : Rounds} → g ≡ Ended n
       → {f : Tested} → r ≡ answered n p f → f ≡ foundOf (search (accepts u (take (2 * n - 0) contexts)) (pairsOf u s rows (take (n - 0) links)) t)
-      → Answers A B u room ((s, rows) ∷ []) p t r links
+      → Finished A B u room ((s, rows) ∷ []) p t r links
   ended-ran u p t short {n} {r} e a b =
       at (searchRound u (s, rows) v t) refl (a ∙ ap₂ (λ (k : ℕ) (f : Tested). answered k p f) (sym (held .count))
       (b ∙ ap₂ (λ (l c : List ℕ). foundOf (search (accepts u c) (pairsOf u s rows l) t)) (held .links-part) (held .contexts-part)))
@@ -88,17 +89,17 @@ module _ (A B : Aut) (room s rows : ℕ) {g : Growth} {links₀ links contexts�
       kept : take (length v) links ≡ linksOf v
       kept = let all : length v ≡ n - 0 = omega (arith, held .count) in ap (λ (k : ℕ). take k links) all ∙ held .links-part
 
-      at : (o : Search) → searchRound u (s, rows) v t ≡ o → r ≡ answered (length v) p (foundOf o) → Answers A B u room ((s, rows) ∷ []) p t r links
-      at (passed k) f same = rw same (record { finish = λ more. run-is (going v is f (runs A B u room more (max p (length v)) k)); legible = through-legible })
+      at : (o : Search) → searchRound u (s, rows) v t ≡ o → r ≡ answered (length v) p (foundOf o) → Finished A B u room ((s, rows) ∷ []) p t r links
+      at (passed k) f same = rw same (record { finish = run-is (going v is f done); legible = through-legible })
       at (rejected k i j) f same =
           rw same
           (record {
-            finish = λ more. run-is (found v is f) ∙ ap (λ (l : List ℕ). record { verdict = shown (stemWord u i) (periodWord l j); periods = max p (length v); tests = k }) (sym kept);
+            finish = run-is (found v is f) ∙ ap (λ (l : List ℕ). record { verdict = shown (stemWord u i) (periodWord l j); periods = max p (length v); tests = k }) (sym kept);
             legible = found-legible A B room s rows short is u t f kept;
           })
 
-  pub full-ran : (u : List ℕ) (p t : ℕ) {m : ℕ} → g ≡ Full → m ≡ max p room → Answers A B u room ((s, rows) ∷ []) p t (Lacking m t) links
+  pub full-ran : (u : List ℕ) (p t : ℕ) {m : ℕ} → g ≡ Full → m ≡ max p room → Finished A B u room ((s, rows) ∷ []) p t (Lacking m t) links
   full-ran u p t {m} e same =
       let is = full-is (periodTable A B s rows room) (sym e ∙ h .answer) in
       let most : max p (length (entries (periodTable A B s rows room))) ≡ m = ap (max p) (periods A B s rows .filled room _ is) ∙ sym same in
-      record { finish = λ more. run-is (lacking _ is) ∙ ap (λ (k : ℕ). record { verdict = periodsFull; periods = k; tests = t }) most; legible = lacking-legible }
+      record { finish = run-is (lacking _ is) ∙ ap (λ (k : ℕ). record { verdict = periodsFull; periods = k; tests = t }) most; legible = lacking-legible }

@@ -1,6 +1,6 @@
 -- A loop over rounds: those that are left give what all give, and each adds few tests. Assumes nothing.
 use mathlib.Core.Path.{_≡_, refl, sym, ap, _∙_}
-use mathlib.Core.List.{List, [], _++_, append-nil, append-assoc}
+use mathlib.Core.List.{List, [], _++_}
 use Prim.Native.Nat.{ℕ, _+_, _-_, _*_, _^_, _≤_, _<_}
 use native.Mathlib.Nat.{mul-le-mul}
 use native.Mathlib.Omega.{arith}
@@ -13,12 +13,12 @@ use Rattle.covering.specs.Entries.{Period}
 use Rattle.periods.specs.Periods.{periodTable}
 use Rattle.rounds.specs.declared.Rounds.{Rounds}
 use Rattle.rounds.specs.declared.Rounds.the-variants.{Through, Lacking, Found}
-use Rattle.walk.specs.Walk.{Finish, Search, searchRound, run}
+use Rattle.walk.specs.Walk.{included, shown, stemsFull, periodsFull, Finish, Search, searchRound, run}
 use Rattle.walk.proofs.Runs.{made, Ran, done, lacking, going, found, runs, run-is}
 use Rattle.walk.proofs.Bounds.{round-tests}
 use Rattle.walk.proofs.Cut.{periods}
-use Rattle.rounds.specs.Finished.{finishOf}
-use Rattle.rounds.specs.Answers.{along, Answers, Ready}
+use Rattle.rounds.specs.Finished.{finishOf, Finished}
+use Rattle.rounds.specs.Round.{Ready}
 use Rattle.rounds.proofs.Legible.{through-legible}
 
 -- the tables stay as long as they are
@@ -34,19 +34,9 @@ ready-on h l c s m = record {
   few = m;
 }
 
-module _ (A B : Aut) (u : List ℕ) (room : ℕ) where
-  -- no round
-  pub none-ran : {cs : List (ℕ × ℕ)} {links : List ℕ} → cs ≡ [] → (p t : ℕ) → Answers A B u room cs p t (Through p t) links
-  none-ran e p t = rw e (record { finish = λ more. refl; legible = through-legible })
-
-  -- no more rounds
-  pub all-ran : {cs : List (ℕ × ℕ)} {p t : ℕ} {r : Rounds} {links : List ℕ} → Answers A B u room cs p t r links → run A B u room cs p t ≡ finishOf u links r
-  all-ran {cs} {p} {t} {r} {links} h = ap (λ (ds : List (ℕ × ℕ)). run A B u room ds p t) (sym (append-nil cs)) ∙ h .finish [] ∙ at r
-    where
-      at : (r : Rounds) → along u links r (run A B u room []) ≡ finishOf u links r
-      at (Through q y) = run-is done
-      at (Lacking q y) = refl
-      at (Found q y i j n) = refl
+-- no round
+pub none-ran : (A B : Aut) (u : List ℕ) (room : ℕ) {cs : List (ℕ × ℕ)} {links : List ℕ} → cs ≡ [] → (p t : ℕ) → Finished A B u room cs p t (Through p t) links
+none-ran A B u room e p t = rw e (record { finish = run-is done; legible = through-legible })
 
 -- ---- how many tests
 
@@ -63,10 +53,10 @@ module _ (A B : Aut) (u : List ℕ) (room : ℕ) (few : length u ≤ 4096) (shor
   ran-few (found {c = c} {t = t} v e s) = omega (arith, round-few c v t e s)
 
   -- m rounds at most, none of which left the loop
-  pub tests-more : (cs : List (ℕ × ℕ)) (p t m : ℕ) {r : Rounds} {q y : ℕ} {links : List ℕ} → Answers A B u room cs p t r links → r ≡ Through q y → length cs ≤ m
+  pub tests-more : (cs : List (ℕ × ℕ)) (p t m : ℕ) {r : Rounds} {q y : ℕ} {links : List ℕ} → Finished A B u room cs p t r links → r ≡ Through q y → length cs ≤ m
       → y ≤ t + m * 2 ^ 28
   tests-more cs p t m {q = q} {y = y} h e l =
-      let end : run A B u room cs p t .tests ≡ y = ap (λ (f : Finish). f .tests) (rw e at (all-ran A B u room h)) in
+      let end : run A B u room cs p t .tests ≡ y = ap (λ (f : Finish). f .tests) (rw e at (h .finish)) in
       omega (arith, ran-few (runs A B u room cs p t))
 
 -- ---- the loop
@@ -75,41 +65,47 @@ module _ (A B : Aut) (u : List ℕ) (room : ℕ) (few : length u ≤ 4096) (shor
 unfoldable pub Stopped : Rounds → Type 0
 Stopped r = (p t : ℕ) → r ≡ Through p t → ⊥
 
--- then no round follows
-stopped-along : (u links : List ℕ) (r : Rounds) (f g : ℕ → ℕ → Finish) → Stopped r → along u links r f ≡ along u links r g
-unfolding Stopped
-stopped-along u links (Through p t) f g s = absurd (s p t refl)
-stopped-along u links (Lacking p t) f g s = refl
-stopped-along u links (Found p t i j n) f g s = refl
+-- the finish of rounds, and of those that follow where none of them was the last
+ahead : Finish → (ℕ → ℕ → Finish) → Finish
+ahead f more = elim (f .verdict) [ included ↦ more (f .periods) (f .tests) | shown x y ↦ f | stemsFull k ↦ f | periodsFull ↦ f ]
+
+stopped-ahead : (u links : List ℕ) (r : Rounds) (more : ℕ → ℕ → Finish) → Stopped r → ahead (finishOf u links r) more ≡ finishOf u links r
+unfolding Stopped ahead
+stopped-ahead u links (Through p t) more s = absurd (s p t refl)
+stopped-ahead u links (Lacking p t) more s = refl
+stopped-ahead u links (Found p t i j n) more s = refl
+
+module _ (A B : Aut) (u : List ℕ) (room : ℕ) where
+  ran-ahead : {cs : List (ℕ × ℕ)} {p t : ℕ} {o : Finish} → Ran A B u room cs p t o → (ds : List (ℕ × ℕ)) → run A B u room (cs ++ ds) p t ≡ ahead o (run A B u room ds)
+  unfolding ahead
+  ran-ahead done ds = refl
+  ran-ahead (lacking v e) ds = run-is (lacking v e)
+  ran-ahead (going v e s r) ds = run-is (going v e s (runs A B u room _ _ _)) ∙ ran-ahead r ds
+  ran-ahead (found v e s) ds = run-is (found v e s)
 
 module _ (A B : Aut) (u : List ℕ) (room : ℕ) (f : ℕ → List (ℕ × ℕ)) (n p₀ t₀ : ℕ) where
   -- the rounds from k on, with the counts so far
   pub record Onward (k p t : ℕ) : Type 0 where
-    pub gives : (more : List (ℕ × ℕ)) → run A B u room (gather k (n - k) f ++ more) p t ≡ run A B u room (gather 0 n f ++ more) p₀ t₀
+    pub gives : run A B u room (gather k (n - k) f) p t ≡ run A B u room (gather 0 n f) p₀ t₀
 
   pub onward-begin : Onward 0 p₀ t₀
-  onward-begin = record { gives = λ more. ap (λ (cs : List (ℕ × ℕ)). run A B u room (cs ++ more) p₀ t₀) (sym (gather-all f n)) }
+  onward-begin = record { gives = ap (λ (cs : List (ℕ × ℕ)). run A B u room cs p₀ t₀) (sym (gather-all f n)) }
 
   module _ {k p t : ℕ} (h : Onward k p t) where
-    next : k < n → {r : Rounds} {links : List ℕ} → Answers A B u room (f k) p t r links → (more : List (ℕ × ℕ))
-        → along u links r (run A B u room (gather (k + 1) (n - (k + 1)) f ++ more)) ≡ run A B u room (gather 0 n f ++ more) p₀ t₀
-    next l ran more =
-        sym (ap (λ (cs : List (ℕ × ℕ)). run A B u room (cs ++ more) p t) (gather-next f n k l)
-        ∙ ap (λ (cs : List (ℕ × ℕ)). run A B u room cs p t) (append-assoc (f k) (gather (k + 1) (n - (k + 1)) f) more)
-        ∙ ran .finish (gather (k + 1) (n - (k + 1)) f ++ more))
-        ∙ h .gives more
+    next : k < n → {r : Rounds} {links : List ℕ} → Finished A B u room (f k) p t r links
+        → ahead (finishOf u links r) (run A B u room (gather (k + 1) (n - (k + 1)) f)) ≡ run A B u room (gather 0 n f) p₀ t₀
+    next l ran =
+        sym (ap (λ (cs : List (ℕ × ℕ)). run A B u room cs p t) (gather-next f n k l)
+        ∙ ran-ahead A B u room (runs A B u room (f k) p t) (gather (k + 1) (n - (k + 1)) f)
+        ∙ ap (λ (o : Finish). ahead o (run A B u room (gather (k + 1) (n - (k + 1)) f))) (ran .finish))
+        ∙ h .gives
 
-    pub onward-next : {r : Rounds} {q y : ℕ} {links : List ℕ} → k < n → Answers A B u room (f k) p t r links → r ≡ Through q y → Onward (k + 1) q y
-    onward-next l ran e = record { gives = λ more. rw e at (next l ran more) }
+    pub onward-next : {r : Rounds} {q y : ℕ} {links : List ℕ} → k < n → Finished A B u room (f k) p t r links → r ≡ Through q y → Onward (k + 1) q y
+    unfolding ahead
+    onward-next l ran e = record { gives = rw e at (next l ran) }
 
-    pub onward-stop : {r : Rounds} {links : List ℕ} → k < n → Answers A B u room (f k) p t r links → Stopped r → Answers A B u room (gather 0 n f) p₀ t₀ r links
-    onward-stop {r} {links} l ran s = record {
-      finish = λ more. sym (next l ran more) ∙ stopped-along u links r (run A B u room (gather (k + 1) (n - (k + 1)) f ++ more)) (run A B u room more) s;
-      legible = ran .legible;
-    }
+    pub onward-stop : {r : Rounds} {links : List ℕ} → k < n → Finished A B u room (f k) p t r links → Stopped r → Finished A B u room (gather 0 n f) p₀ t₀ r links
+    onward-stop {r} {links} l ran s = record { finish = sym (next l ran) ∙ stopped-ahead u links r _ s; legible = ran .legible }
 
-    pub onward-done : {links : List ℕ} → n ≤ k → Answers A B u room (gather 0 n f) p₀ t₀ (Through p t) links
-    onward-done l = record {
-      finish = λ more. sym (h .gives more) ∙ ap (λ (cs : List (ℕ × ℕ)). run A B u room (cs ++ more) p t) (gather-over f n k l);
-      legible = through-legible;
-    }
+    pub onward-done : {links : List ℕ} → n ≤ k → Finished A B u room (gather 0 n f) p₀ t₀ (Through p t) links
+    onward-done l = record { finish = sym (h .gives) ∙ ap (λ (cs : List (ℕ × ℕ)). run A B u room cs p t) (gather-over f n k l) ∙ run-is done; legible = through-legible }

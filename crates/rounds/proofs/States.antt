@@ -17,8 +17,7 @@ use Rattle.automata.specs.declared.Head.{Head}
 use Rattle.walk.specs.Walk.{opening, rounds}
 use Rattle.rounds.specs.declared.Rounds.{Rounds}
 use Rattle.rounds.specs.Finished.{Finished}
-use Rattle.rounds.specs.Answers.{Answers, roundAt, roundFor, roundsAt}
-use Rattle.rounds.proofs.Onward.{all-ran}
+use Rattle.rounds.specs.Round.{roundAt, roundsAt}
 use Rattle.growth.proofs.Gathered.{gather-nothing}
 
 -- no transition of a loaded automaton is itself accepting, so a period may start at the accepting states
@@ -32,6 +31,11 @@ opening-is rows head s =
     and-none : (b : Bool) → (b && false) ≡ false
     and-none true = refl
     and-none false = refl
+
+-- ---- for the entry of W at k
+
+unfoldable pub roundFor : Aut → List ℕ → ℕ → ℕ → List (ℕ × ℕ)
+roundFor A w s k = roundAt A s (getD w k 0)
 
 -- ---- at a state that is not accepting, and of an entry at another state: none
 
@@ -64,11 +68,12 @@ gather-count f i zero h = omega arith
 gather-count f i (suc n) h = omega (arith, length-append (f i) (gather (suc i) n f), h i, gather-count f (suc i) n h)
 
 pub rounds-count : (A : Aut) (w : List ℕ) (s : ℕ) → length (roundsAt A w s) ≤ length w
-unfolding roundsAt
+unfolding roundsAt roundFor
 rounds-count A w s = gather-count (roundFor A w s) 0 (length w) (round-count A w s)
 
 -- ---- all of them
 
-pub each-ran : (A B : Aut) (u : List ℕ) (room : ℕ) (w : List ℕ) {r : Rounds} {links : List ℕ} → Answers A B u room (gather 0 16 (roundsAt A w)) 0 0 r links → Finished A B u w room r links
-unfolding rounds steps roundsAt roundFor roundAt
-each-ran A B u room w h = record { finish = all-ran A B u room h; legible = h .legible }
+pub each-ran : (A B : Aut) (u : List ℕ) (room : ℕ) (w : List ℕ) {r : Rounds} {links : List ℕ} → Finished A B u room (gather 0 16 (roundsAt A w)) 0 0 r links
+    → Finished A B u room (rounds A B w) 0 0 r links
+unfolding rounds steps roundsAt roundAt
+each-ran A B u room w h = h

@@ -8,7 +8,7 @@ use Rattle.acceptance.specs.Lasso.{Aut}
 use Rattle.rounds.specs.declared.Rounds.{Rounds}
 use Rattle.rounds.specs.declared.Rounds.the-variants.{Through, Lacking, Found}
 use Rattle.walk.specs.Words.{stemWord, periodWord}
-use Rattle.walk.specs.Walk.{included, shown, periodsFull, Finish, run, rounds}
+use Rattle.walk.specs.Walk.{included, shown, periodsFull, Finish, run}
 use Rattle.spelling.specs.Written.{Backward}
 
 -- the finish, read off the answer: the words are those of the stems u and of the period table in the first links
@@ -21,7 +21,7 @@ finishOf u links (Found p t i j n) = record { verdict = shown (stemWord u i) (pe
 pub record Legible (room : ℕ) (u links : List ℕ) (r : Rounds) : Type 0 where
   pub lasso : (p t i j n : ℕ) → r ≡ Found p t i j n → (i < length u) × (j < n) × (n ≤ room) × Backward true (take n links)
 
--- what the rounds of all entries of W answer
-pub record Finished (A B : Aut) (u w : List ℕ) (room : ℕ) (r : Rounds) (links : List ℕ) : Type 0 where
-  pub finish : run A B u room (rounds A B w) 0 0 ≡ finishOf u links r
+-- what the rounds cs answer; p and t are the counts before them
+pub record Finished (A B : Aut) (u : List ℕ) (room : ℕ) (cs : List (ℕ × ℕ)) (p t : ℕ) (r : Rounds) (links : List ℕ) : Type 0 where
+  pub finish : run A B u room cs p t ≡ finishOf u links r
   pub legible : Legible room u links r

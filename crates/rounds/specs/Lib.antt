@@ -1,3 +1,3 @@
 -- The definitions that the contracts cite.
 pub mod Finished
-pub mod Answers
+pub mod Round

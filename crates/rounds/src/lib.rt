@@ -6,8 +6,9 @@ ghost use Prim.Native.Nat.{_*_, _^_, max, _<_, _≤_};
 ghost use lib.ListN.{length};
 ghost use Rattle.bits.specs.Bits.{bit};
 ghost use Rattle.automata.specs.Loaded.{cell, autOf};
+ghost use Rattle.walk.specs.Walk.{rounds};
 ghost use Rattle.rounds.specs.Finished.{Finished};
-ghost use Rattle.rounds.specs.Answers.{answered, roundAt, roundsAt, Answers, Ready};
+ghost use Rattle.rounds.specs.Round.{roundAt, roundsAt, answered, Ready};
 use automata::Head;
 use bits::entries;
 use bits::members;
@@ -81,7 +82,7 @@ fn round(
 ) -> Rounds
     requires { ⌜ Ready room t (now stems) (now links) (now contexts) (now scratch) ⌝ }
     requires { ⌜ (s < 16) × (bit («model_head» .accepting) s ≡ true) ⌝ }
-    ensures { λ r. ⌜ Answers (autOf (cell (now (model .entry))) «model_head») (autOf (cell (now (rule .entry))) «rule_head»)
+    ensures { λ r. ⌜ Finished (autOf (cell (now (model .entry))) «model_head») (autOf (cell (now (rule .entry))) «rule_head»)
         (now (stems .entry)) room (roundAt (autOf (cell (now (model .entry))) «model_head») s entry) p t r (now (links .exit)) ⌝ }
 {
     if entries::stem_state(entry) != s {
@@ -136,7 +137,7 @@ fn at_state(
 ) -> Rounds
     requires { ⌜ Ready room «t_before» (now stems) (now links) (now contexts) (now scratch) ⌝ }
     requires { ⌜ (s < 16) × (length (now largest) ≤ 4096) × («t_before» ≤ 2 ^ 48) ⌝ }
-    ensures { λ r. ⌜ Answers (autOf (cell (now (model .entry))) «model_head») (autOf (cell (now (rule .entry))) «rule_head»)
+    ensures { λ r. ⌜ Finished (autOf (cell (now (model .entry))) «model_head») (autOf (cell (now (rule .entry))) «rule_head»)
         (now (stems .entry)) room (roundsAt (autOf (cell (now (model .entry))) «model_head») (now (largest .entry)) s) «p_before» «t_before» r (now (links .exit)) ⌝ }
 {
     let mut p = p_before;
@@ -192,7 +193,7 @@ fn each_state(
     requires { ⌜ Ready room 0 (now stems) (now links) (now contexts) (now scratch) ⌝ }
     requires { ⌜ length (now largest) ≤ 4096 ⌝ }
     ensures { λ r. ⌜ Finished (autOf (cell (now (model .entry))) «model_head») (autOf (cell (now (rule .entry))) «rule_head»)
-        (now (stems .entry)) (now (largest .entry)) room r (now (links .exit)) ⌝ }
+        (now (stems .entry)) room (rounds (autOf (cell (now (model .entry))) «model_head») (autOf (cell (now (rule .entry))) «rule_head») (now (largest .entry))) 0 0 r (now (links .exit)) ⌝ }
 {
     let mut p = 0;
     let mut t = 0;
@@ -251,7 +252,7 @@ pub fn all(
     requires { ⌜ (length (now stems) ≤ 4096) × (length (now largest) ≤ 4096) ⌝ }
     requires { ⌜ (room ≤ 65535) × (room ≤ length (now links)) × (2 * room ≤ length (now contexts)) ⌝ }
     ensures { λ r. ⌜ Finished (autOf (cell (now (model .entry))) «model_head») (autOf (cell (now (rule .entry))) «rule_head»)
-        (now (stems .entry)) (now (largest .entry)) room r (now (links .exit)) ⌝ }
+        (now (stems .entry)) room (rounds (autOf (cell (now (model .entry))) «model_head») (autOf (cell (now (rule .entry))) «rule_head») (now (largest .entry))) 0 0 r (now (links .exit)) ⌝ }
 {
     if room <= 2048 {
         let mut small = [0u16; 8224];

@@ -1,19 +1,18 @@
--- The candidates as the code takes them are those of the definition. Assumes nothing.
+-- The candidates, as the loops take them, are those of the definition. Assumes nothing.
 use mathlib.Core.Path.{_≡_, refl}
-use mathlib.Core.Bool.{Bool, true, false}
+use mathlib.Core.Bool.{true, false}
 use mathlib.Core.List.{List, [], _∷_}
-use Prim.Native.Nat.{ℕ, _^_}
+use Prim.Native.Nat.{ℕ}
 use Rattle.bits.specs.Bits.{bit}
 use Rattle.bits.specs.Sets.{byRows}
 use Rattle.bits.specs.Fields.{stemEntry}
-use Rattle.growth.specs.Grow.{table}
-use Rattle.growth.specs.Steps.{steps}
+use Rattle.growth.specs.Steps.{gather, steps}
 use Rattle.acceptance.specs.Contexts.{movedBy}
 use Rattle.automata.specs.declared.Head.{Head}
-use Rattle.automata.specs.Loaded.{cell, autOf}
-use Rattle.stems.specs.Stems.{stemRoot, stemNext, stemTable}
+use Rattle.automata.specs.Loaded.{cell, autOf, stepsOf}
+use Rattle.stems.specs.Stems.{stemNext}
 use Rattle.stems.specs.declared.Move.{Move}
-use Rattle.stems.specs.Candidates.{moveOf, atState, atLetter, byLetter, candidates, taken, tableFrom}
+use Rattle.stems.specs.Candidates.{moveOf, atState, atLetter}
 
 module _ (by : Move) (q : ℕ) where
   pub state-some : bit (by .successors) q ≡ true → atState by q ≡ stemEntry (by .target) q (by .letter) (by .parent) ∷ []
@@ -24,7 +23,16 @@ module _ (by : Move) (q : ℕ) where
   unfolding atState
   state-none p = rw p
 
-pub table-is : (model rule : List (List ℕ)) (first second : Head) (largest : Bool) (room : ℕ)
-    → stemTable (autOf (cell model) first) (autOf (cell rule) second) largest room ≡ tableFrom model rule (stemEntry (2 ^ second .start) (first .start) 0 0) largest room
-unfolding stemTable stemRoot stemNext steps autOf movedBy cell byRows tableFrom taken table candidates byLetter atLetter atState moveOf
-table-is model rule first second largest room = refl
+module _ (model rule : List (List ℕ)) where
+  -- those of the letter x
+  unfoldable pub byLetter : (parent entry x : ℕ) → List ℕ
+  byLetter parent entry x = atLetter (moveOf model rule parent entry x)
+
+  pub letters-all : (parent entry : ℕ) → stemNext (stepsOf model) (stepsOf rule) parent entry ≡ gather 0 16 (byLetter parent entry)
+  unfolding stemNext steps autOf movedBy cell byRows byLetter atLetter atState moveOf
+  letters-all parent entry = refl
+
+  -- where the automata start and what they accept does not matter
+  pub heads-apart : (first second : Head) → stemNext (autOf (cell model) first) (autOf (cell rule) second) ≡ stemNext (stepsOf model) (stepsOf rule)
+  unfolding stemNext autOf movedBy
+  heads-apart first second = refl

@@ -34,8 +34,13 @@ module _ (largest : Bool) where
 
 -- ---- flags raised
 
+-- the same at the targets below t
+pub record RaisedBelow (t : ℕ) (largest : Bool) (entry : ℕ) (old new : List ℕ) : Type 0 where
+  pub long : length new ≡ length old
+  pub flag : (i : ℕ) → i < 4096 → getD new i 0 ≡ cond (stemCovers largest entry i && ltb (stemTarget i) t) 1 (getD old i 0)
+
 module _ (largest : Bool) (entry : ℕ) where
-  pub raised-none : (marks : List ℕ) → Raised largest entry 0 marks marks
+  pub raised-none : (marks : List ℕ) → RaisedBelow 0 largest entry marks marks
   raised-none marks = record { long = refl; flag = λ i h. at (stemCovers largest entry i) (le-ltb (stemTarget i) 0 (omega arith)) }
     where
       at : (b : Bool) {d : Bool} {n : ℕ} → d ≡ false → n ≡ cond (b && d) 1 n
@@ -43,9 +48,9 @@ module _ (largest : Bool) (entry : ℕ) where
       at false p = refl
 
   -- one target more
-  pub raised-more : {state target : ℕ} (t : ℕ) {old new : List ℕ} {flag : ℕ} → Raised largest entry t old new → length old ≡ 4096 → t < 256
+  pub raised-more : {state target : ℕ} (t : ℕ) {old new : List ℕ} {flag : ℕ} → RaisedBelow t largest entry old new → length old ≡ 4096 → t < 256
       → state ≡ stemState entry → target ≡ stemTarget entry → flag ≡ cond (targetCovers largest target t) 1 (getD new (256 * state + t) 0)
-      → Raised largest entry (t + 1) old (set new (256 * state + t) flag)
+      → RaisedBelow (t + 1) largest entry old (set new (256 * state + t) flag)
   unfolding stemCovers
   raised-more {state} {target} t {old} {new} {flag} r long l at-state at-target e =
       record { long = length-set new place flag ∙ r .long; flag = λ i h. at i h (ℕ-discrete i place) }
@@ -85,21 +90,27 @@ module _ (largest : Bool) (entry : ℕ) where
       at i h (yes p) = rw p (getD-set-same new place flag 0 (omega (arith, r .long)) ∙ e ∙ ap₂ (λ (b : Bool) (n : ℕ). cond b 1 n) (sym after) (r .flag place (omega arith) ∙ ap (λ (b : Bool). cond b 1 (getD old place 0)) before))
       at i h (no n) = getD-set-other new place i flag 0 n ∙ r .flag i h ∙ ap (λ (b : Bool). cond b 1 (getD old i 0)) (other i h n)
 
+  pub raised-all : {old new : List ℕ} → RaisedBelow 256 largest entry old new → Raised largest entry old new
+  raised-all {old} r = record {
+    long = r .long;
+    flag = λ i h. r .flag i h ∙ ap (λ (b : Bool). cond b 1 (getD old i 0)) (ap (_&&_ (stemCovers largest entry i)) (lt-ltb (stemTarget i) 256 (omega arith)) ∙ and-true (stemCovers largest entry i));
+  }
+
 -- ---- an entry more
 
 pub marked-none : (largest : Bool) → Marked largest [] (replicate 4096 0)
 unfolding weight
 marked-none largest = record { long = length-replicate {A = ℕ} 4096 0; flag = λ i h. getD-replicate {A = ℕ} 4096 i 0 0 h }
 
-pub marked-more : (largest : Bool) {es old new : List ℕ} (e : ℕ) → Marked largest es old → Raised largest e 256 old new → Marked largest (es ++ (e ∷ [])) new
+pub marked-more : (largest : Bool) {es old new : List ℕ} (e : ℕ) → Marked largest es old → Raised largest e old new → Marked largest (es ++ (e ∷ [])) new
 unfolding weight
 marked-more largest {es} {old} {new} e m r =
     record {
       long = r .long ∙ m .long;
-      flag = λ i h. r .flag i h ∙ at (stemCovers largest e i) (covered (stemCovers largest) es i) (lt-ltb (stemTarget i) 256 (omega arith)) (m .flag i h)
+      flag = λ i h. r .flag i h ∙ at (stemCovers largest e i) (covered (stemCovers largest) es i) (m .flag i h)
           ∙ ap weight (sym (covered-snoc (stemCovers largest) es e i));
     }
   where
-    at : (b c : Bool) {d : Bool} {n : ℕ} → d ≡ true → n ≡ weight c → cond (b && d) 1 n ≡ weight (c || b)
-    at true c p q = rw p (ap weight (sym (or-true c)))
-    at false c p q = q ∙ ap weight (sym (or-false c))
+    at : (b c : Bool) {n : ℕ} → n ≡ weight c → cond b 1 n ≡ weight (c || b)
+    at true c q = ap weight (sym (or-true c))
+    at false c q = q ∙ ap weight (sym (or-false c))

@@ -60,7 +60,7 @@ module _ (largest : Bool) where
       pub kept-full : (getD marks at 0 ≡ 1 → ⊥) → room ≤ n → Kept largest (offered largest room n t (e ∷ [])) t t marks Full
       kept-full f l = kept-is (offer-full (stemCovers largest) room (take n t) e (uncovered f) (omega (arith, long))) refl still (ready .marked)
 
-      pub kept-appended : {marked : List ℕ} → (getD marks at 0 ≡ 1 → ⊥) → n < room → Raised largest e 256 marks marked
+      pub kept-appended : {marked : List ℕ} → (getD marks at 0 ≡ 1 → ⊥) → n < room → Raised largest e marks marked
           → Kept largest (offered largest room n t (e ∷ [])) t (set t n e) marked (Ended (n + 1))
       kept-appended f l r =
           kept-is (offer-appended (stemCovers largest) room (take n t) e (uncovered f) (omega (arith, long))) (ap Ended more)

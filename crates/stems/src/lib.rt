@@ -6,10 +6,11 @@ ghost use mathlib.Core.List.{[], _∷_};
 ghost use Prim.Native.Nat.{_^_, _≤_, _<_};
 ghost use lib.ListN.{length, getD, take};
 ghost use Rattle.bits.specs.Fields.{stemEntry};
-ghost use Rattle.automata.specs.Loaded.{cell, autOf};
-ghost use Rattle.stems.specs.Stems.{stemTable};
+ghost use Rattle.automata.specs.Loaded.{cell, autOf, stepsOf};
+ghost use Rattle.growth.specs.Grow.{grow as taken};
+ghost use Rattle.stems.specs.Stems.{stemCovers, stemNext, stemTable};
 ghost use Rattle.stems.specs.Held.{Held};
-ghost use Rattle.stems.specs.Candidates.{atState, atLetter, moveOf, candidates, taken, tableFrom};
+ghost use Rattle.stems.specs.Candidates.{atState, atLetter, moveOf};
 ghost use Rattle.stems.specs.Growing.{Ready, offered, Kept};
 
 mod marks;
@@ -119,7 +120,7 @@ fn expand(
 ) -> Growth
     requires { ⌜ Ready largest room n (now table) (now marks) ⌝ }
     requires { ⌜ i < n ⌝ }
-    ensures { λ r. ⌜ Kept largest (offered largest room n (now (table .entry)) (candidates (now (model .entry)) (now (rule .entry)) i (getD (now (table .entry)) i 0))) (now (table .entry)) (now (table .exit)) (now (marks .exit)) r ⌝ }
+    ensures { λ r. ⌜ Kept largest (offered largest room n (now (table .entry)) (stemNext (stepsOf (now (model .entry))) (stepsOf (now (rule .entry))) i (getD (now (table .entry)) i 0))) (now (table .entry)) (now (table .exit)) (now (marks .exit)) r ⌝ }
 {
     let entry = table[i];
     let mut count = n;
@@ -152,7 +153,7 @@ fn take_all(
     rule: &[[u8; 8]; 16],
 ) -> Growth
     requires { ⌜ Ready largest room n (now table) (now marks) ⌝ }
-    ensures { λ r. ⌜ Kept largest (taken (now (model .entry)) (now (rule .entry)) largest room (take n (now (table .entry)))) (now (table .entry)) (now (table .exit)) (now (marks .exit)) r ⌝ }
+    ensures { λ r. ⌜ Kept largest (taken (stemCovers largest) (stemNext (stepsOf (now (model .entry))) (stepsOf (now (rule .entry)))) room room 0 (take n (now (table .entry)))) (now (table .entry)) (now (table .exit)) (now (marks .exit)) r ⌝ }
 {
     let mut count = n;
     let mut i = 0;
@@ -166,25 +167,6 @@ fn take_all(
     Growth::Ended(count)
 }
 
-// The table that grows from its root; at first no flag is up.
-fn from_root(
-    table: &mut [u32],
-    room: usize,
-    model: &[[u16; 16]; 16],
-    rule: &[[u8; 8]; 16],
-    root: u32,
-    largest: bool,
-) -> Growth
-    requires { ⌜ (room ≤ 4096) × (room ≤ length (now table)) ⌝ }
-    ensures { λ r. ⌜ Held (tableFrom (now (model .entry)) (now (rule .entry)) root largest room) (now (table .entry)) (now (table .exit)) r ⌝ }
-{
-    let mut marks = [0u8; 4096];
-    let Growth::Ended(n) = offer(table, &mut marks, room, 0, largest, root) else {
-        return Growth::Full;
-    };
-    take_all(table, &mut marks, room, n, largest, model, rule)
-}
-
 // The root: a state of A, the empty word, one state of B.
 fn root(state: u8, start: u8) -> u32
     requires { ⌜ (state < 16) × (start < 8) ⌝ }
@@ -193,7 +175,7 @@ fn root(state: u8, start: u8) -> u32
     bits::entries::stem_entry(1u8 << start, state, 0, 0)
 }
 
-// U, or W where `largest`, in the first elements of the lent table.
+// U, or W where `largest`, in the first elements of the lent table. It grows from its root; at first no flag is up.
 pub fn grow(
     table: &mut [u32],
     room: usize,
@@ -207,12 +189,10 @@ pub fn grow(
     requires { ⌜ («model_head» .start < 16) × («rule_head» .start < 8) ⌝ }
     ensures { λ r. ⌜ Held (stemTable (autOf (cell (now (model .entry))) «model_head») (autOf (cell (now (rule .entry))) «rule_head») largest room) (now (table .entry)) (now (table .exit)) r ⌝ }
 {
-    from_root(
-        table,
-        room,
-        model,
-        rule,
-        root(model_head.start, rule_head.start),
-        largest,
-    )
+    let mut marks = [0u8; 4096];
+    let first = root(model_head.start, rule_head.start);
+    let Growth::Ended(n) = offer(table, &mut marks, room, 0, largest, first) else {
+        return Growth::Full;
+    };
+    take_all(table, &mut marks, room, n, largest, model, rule)
 }

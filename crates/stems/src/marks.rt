@@ -36,7 +36,7 @@ pub fn place(entry: u32) -> usize
 // Raises the flags of all that the entry covers: of the targets at its state, one by one.
 pub fn mark(marks: &mut [u8; 4096], entry: u32, largest: bool)
     requires { ⌜ length (now marks) ≡ 4096 ⌝ }
-    ensures { λ r. ⌜ Raised largest entry 256 (now (marks .entry)) (now (marks .exit)) ⌝ }
+    ensures { λ r. ⌜ Raised largest entry (now (marks .entry)) (now (marks .exit)) ⌝ }
 {
     let state = bits::entries::stem_state(entry) as usize;
     let target = bits::entries::stem_target(entry);

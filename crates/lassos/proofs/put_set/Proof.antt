@@ -1,9 +1,8 @@
 -- `put_set` meets its contract. Assumes nothing.
-use Rattle.lassos.proofs.Pairs.{put-none, put-one}
 use Rattle.bits.specs.Fields.{linkState}
 use lib.ListN.{getD}
-use borrow.Author.Tests.{ne-eqb}
-use mathlib.Core.Path.{_∙_}
+use borrow.Author.Tests.{eq-eqb, ne-eqb}
+use mathlib.Core.Path.{sym, _∙_}
 use borrow.Author.Needs.{needs}
 use Rattle.lassos.proofs.put_set.Statement.{statement}
 use Rattle.lassos.proofs.put_set.Tie as tie
@@ -20,7 +19,7 @@ link-state-requires c κs = search needs
 returns : tie.Need-returns
 returns c =
     let start = c .before .before .before .before .before .before in
-    put-none (start .pre .0) (ne-eqb (linkState (getD (start .args .links .now) (start .args .j) 0)) (start .args .s) (λ e. c .if1 .taken (c .before .link-state .ensures ∙ e)))
+    simp (ne-eqb (linkState (getD (start .args .links .now) (start .args .j) 0)) (start .args .s) (λ e. c .if1 .taken (c .before .link-state .ensures ∙ e)))
 
 mul-reach : tie.Need-mul-reach
 mul-reach c = search needs
@@ -61,7 +60,7 @@ same-length c = search needs
 returns-2 : tie.Need-returns-2
 returns-2 c =
     let start = c .before .before .before .before .before .before .before .before .before in
-    put-one (start .pre .0) (start .pre .1 .1) (c .repeated .ensures)
+    simp (eq-eqb (linkState (getD (start .args .links .now) (start .args .j) 0)) (start .args .s) (sym (c .before .before .before .before .link-state .ensures) ∙ c .before .before .before .if1 .left), c .repeated .ensures)
 
 pub put-set-spec : {M : Type 1} → statement M
 put-set-spec =

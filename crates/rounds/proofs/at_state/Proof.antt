@@ -1,7 +1,7 @@
 -- `at_state` meets its contract. The loop's invariant: the rounds from k on give what all give, each with few tests, and the tables stay as long as they are. Assumes nothing.
-use Rattle.rounds.proofs.States.{opening-is, no-rounds, round-count}
+use Rattle.rounds.proofs.States.{opening-is, roundFor, no-rounds, round-count}
 use Rattle.rounds.proofs.Onward.{Stopped, Onward, onward-begin, onward-next, onward-stop, onward-done, none-ran, ready-on, tests-more}
-use Rattle.rounds.specs.Answers.{roundFor, roundsAt}
+use Rattle.rounds.specs.Round.{roundsAt}
 use Rattle.automata.specs.Loaded.{cell, autOf}
 use borrow.Author.Tests.{not-true, not-false}
 use native.Mathlib.Omega.{arith}
@@ -32,7 +32,7 @@ returns c =
     (args .p-before) (args .t-before)
 
 loop-holds : tie.Need-loop-holds Inv-loop μ-loop
-unfolding roundsAt
+unfolding roundsAt roundFor
 loop-holds c =
     let args = c .before .before .before .before .before .before .before .args in
     (search needs, search needs, refl, refl, refl, onward-begin (autOf (cell (args .model .now)) (args .model-head)) (autOf (cell (args .rule .now)) (args .rule-head)) (args .stems .now) (args .room) (roundFor (autOf (cell (args .model .now)) (args .model-head)) (args .largest .now) (args .s)) (length (args .largest .now)) (args .p-before) (args .t-before))
@@ -102,7 +102,7 @@ same-length-6 : tie.Need-same-length-6 Inv-loop μ-loop
 same-length-6 c = search needs
 
 returns-3 : tie.Need-returns-3 Inv-loop μ-loop
-unfolding roundsAt
+unfolding roundsAt roundFor
 returns-3 c =
     let args = c .before .before .before .before .before .before .before .before .before .args in
     onward-done (autOf (cell (args .model .now)) (args .model-head)) (autOf (cell (args .rule .now)) (args .rule-head)) (args .stems .now) (args .room) (roundFor (autOf (cell (args .model .now)) (args .model-head)) (args .largest .now) (args .s)) (length (args .largest .now)) (args .p-before) (args .t-before) (c .before .loop .inv .5) (c .loop-test .left)

@@ -1,7 +1,7 @@
 -- `each_state` meets its contract. The loop's invariant: the rounds from s on give what all give, each with few tests, and the tables stay as long as they are. Assumes nothing.
 use Rattle.rounds.proofs.States.{rounds-count, each-ran}
 use Rattle.rounds.proofs.Onward.{Stopped, Onward, onward-begin, onward-next, onward-stop, onward-done, ready-on, tests-more}
-use Rattle.rounds.specs.Answers.{roundsAt}
+use Rattle.rounds.specs.Round.{roundsAt}
 use Rattle.automata.specs.Loaded.{cell, autOf}
 use Prim.Native.Nat.{_*_, _^_, _-_, _≤_}
 use native.Mathlib.Omega.{arith}

@@ -5,7 +5,10 @@ use Rattle.stems.specs.declared.Move.{Move}
 use lib.ListN.{getD}
 use Rattle.growth.specs.Steps.{gather}
 use Rattle.growth.proofs.Offering.{gather-on, gather-done}
-use Rattle.stems.specs.Candidates.{moveOf, byLetter, candidates}
+use Rattle.stems.specs.Stems.{stemNext}
+use Rattle.automata.specs.Loaded.{stepsOf}
+use Rattle.stems.specs.Candidates.{moveOf}
+use Rattle.stems.proofs.Candidates.{byLetter, letters-all}
 use Rattle.stems.specs.Growing.{offered}
 use Rattle.stems.proofs.Growing.{Going, going-from, going-on, going-full, going-end}
 use borrow.Author.Needs.{needs}
@@ -14,7 +17,7 @@ use Rattle.stems.proofs.expand.Statement.{statement}
 use Rattle.stems.proofs.expand.Tie as tie
 
 abbrev Inv-loop : tie.InvT-loop
-Inv-loop table₀ marks₀ room n largest model rule i entry count₀ x₀ table marks count x = (x ≤ 16) × Going largest room (offered largest room n table₀ (candidates model rule i (getD table₀ i 0))) (offered largest room count table (gather x (16 - x) (byLetter model rule i (getD table₀ i 0)))) table₀ count table marks
+Inv-loop table₀ marks₀ room n largest model rule i entry count₀ x₀ table marks count x = (x ≤ 16) × Going largest room (offered largest room n table₀ (stemNext (stepsOf model) (stepsOf rule) i (getD table₀ i 0))) (offered largest room count table (gather x (16 - x) (byLetter model rule i (getD table₀ i 0)))) table₀ count table marks
 
 abbrev μ-loop : tie.MeasureT-loop
 μ-loop table₀ marks₀ room n largest model rule i entry count₀ x₀ table marks count x = 16 - x
@@ -26,8 +29,9 @@ slice-read-entry : tie.Need-slice-read-entry Inv-loop μ-loop
 slice-read-entry c = search needs
 
 loop-holds : tie.Need-loop-holds Inv-loop μ-loop
-unfolding candidates
-loop-holds c = (search needs, going-from _ _ (c .before .before .pre .0))
+loop-holds c =
+    let start = c .before .before in
+    (search needs, rw (letters-all (start .args .model .now) (start .args .rule .now) (start .args .i) (getD (start .args .table .now) (start .args .i) 0)) (going-from _ _ (start .pre .0)))
 
 cast-step : tie.Need-cast-step Inv-loop μ-loop
 cast-step c = search needs

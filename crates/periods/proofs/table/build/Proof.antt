@@ -3,10 +3,10 @@ use mathlib.Core.Path.{_∙_}
 use mathlib.Core.List.{[]}
 use Prim.Native.Nat.{_-_, _<_}
 use native.Mathlib.Omega.{arith}
-use Rattle.automata.specs.Loaded.{cell, autOf, ofPairs}
+use Rattle.automata.specs.Loaded.{cell, autOf, stepsOf, ofPairs}
 use Rattle.growth.specs.Grow.{table}
 use Rattle.covering.specs.Masks.{covers}
-use Rattle.periods.specs.Candidates.{candidates, ofEntry}
+use Rattle.periods.specs.Periods.{wordNext, periodNext}
 use Rattle.periods.proofs.Going.{Going}
 use Rattle.periods.proofs.Candidates.{word-entry}
 use Rattle.periods.proofs.Taking.{due, build-start, build-full, build-on, build-end, build-next}
@@ -17,8 +17,8 @@ use Rattle.periods.proofs.table.build.Tie as tie
 abbrev Inv-loop : tie.InvT-loop
 Inv-loop links₀ contexts₀ chains₀ room rows model rule head word₀ count₀ i₀ links contexts chains word count i =
     (word .state < 16)
-    × Going (covers rows) room (table (covers rows) (ofEntry model (autOf (cell rule) head)) room (candidates model (autOf (cell rule) head) (word₀ .state) (word₀ .parent) (ofPairs (word₀ .context))))
-    (due (covers rows) (ofEntry model (autOf (cell rule) head)) room (candidates model (autOf (cell rule) head) (word .state) (word .parent) (ofPairs (word .context))) i)
+    × Going (covers rows) room (table (covers rows) (periodNext (stepsOf model) (autOf (cell rule) head)) room (wordNext (stepsOf model) (autOf (cell rule) head) (word₀ .state) (word₀ .parent) (ofPairs (word₀ .context))))
+    (due (covers rows) (periodNext (stepsOf model) (autOf (cell rule) head)) room (wordNext (stepsOf model) (autOf (cell rule) head) (word .state) (word .parent) (ofPairs (word .context))) i)
     links₀ links contexts₀ contexts chains₀ chains count
 
 abbrev μ-loop : tie.MeasureT-loop

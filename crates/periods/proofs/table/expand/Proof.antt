@@ -2,14 +2,15 @@
 use mathlib.Core.Path.{refl, _∙_}
 use Prim.Native.Nat.{_-_, _≤_}
 use native.Mathlib.Omega.{arith}
-use Rattle.automata.specs.Loaded.{cell, autOf, ofPairs}
+use Rattle.automata.specs.Loaded.{cell, autOf, stepsOf, ofPairs}
 use Rattle.growth.specs.Grow.{offer}
 use Rattle.covering.specs.Entries.{held}
 use Rattle.covering.specs.Masks.{covers}
 use Rattle.periods.proofs.Going.{Going}
-use Rattle.periods.specs.Candidates.{atLetter, candidates}
+use Rattle.periods.specs.Candidates.{atLetter}
+use Rattle.periods.specs.Periods.{wordNext}
 use Rattle.periods.proofs.Loop.{from, loop-start, loop-end, loop-skip, loop-full, loop-on}
-use Rattle.periods.proofs.Candidates.{letter-none}
+use Rattle.periods.proofs.Candidates.{letters-all, letter-none}
 use borrow.Author.Needs.{needs}
 use Rattle.periods.proofs.table.expand.Statement.{statement}
 use Rattle.periods.proofs.table.expand.Tie as tie
@@ -17,15 +18,16 @@ use Rattle.periods.proofs.table.expand.Tie as tie
 abbrev Inv-loop : tie.InvT-loop
 Inv-loop links₀ contexts₀ chains₀ room n rows model rule head word count₀ x₀ links contexts chains count x =
     (x ≤ 16)
-    × Going (covers rows) room (offer (covers rows) room (held n links₀ contexts₀) (candidates model (autOf (cell rule) head) (word .state) (word .parent) (ofPairs (word .context)))) (from (covers rows) room (atLetter model (autOf (cell rule) head) (word .state) (word .parent) (ofPairs (word .context))) 16 x)
+    × Going (covers rows) room (offer (covers rows) room (held n links₀ contexts₀) (wordNext (stepsOf model) (autOf (cell rule) head) (word .state) (word .parent) (ofPairs (word .context)))) (from (covers rows) room (atLetter model (autOf (cell rule) head) (word .state) (word .parent) (ofPairs (word .context))) 16 x)
     links₀ links contexts₀ contexts chains₀ chains count
 
 abbrev μ-loop : tie.MeasureT-loop
 μ-loop links₀ contexts₀ chains₀ room n rows model rule head word count₀ x₀ links contexts chains count x = 16 - x
 
 loop-holds : tie.Need-loop-holds Inv-loop μ-loop
-unfolding candidates
-loop-holds c = (search needs, loop-start _ _ _ _ (c .before .before .before .pre .1))
+loop-holds c =
+    let args = c .before .before .before .args in
+    (search needs, rw (letters-all (args .model .now) (autOf (cell (args .rule .now)) (args .head)) (args .word .state) (args .word .parent) (ofPairs (args .word .context))) (loop-start _ _ _ _ (c .before .before .before .pre .1)))
 
 cast-if1 : tie.Need-cast-if1 Inv-loop μ-loop
 cast-if1 c = search needs

@@ -2,8 +2,7 @@
 use native.Mathlib.Nat.{le-antisymm}
 use mathlib.Core.Path.{_≡_}
 use Rattle.bits.specs.Fields.{stemState, stemTarget}
-use Rattle.stems.specs.Flags.{Raised}
-use Rattle.stems.proofs.Flags.{raised-none, raised-more}
+use Rattle.stems.proofs.Flags.{RaisedBelow, raised-none, raised-more, raised-all}
 use borrow.Author.Needs.{needs}
 use Prim.Native.Nat.{_≤_, _-_}
 use lib.ListN.{length}
@@ -11,7 +10,7 @@ use Rattle.stems.proofs.marks.mark.Statement.{statement}
 use Rattle.stems.proofs.marks.mark.Tie as tie
 
 abbrev Inv-loop : tie.InvT-loop
-Inv-loop marks₀ entry largest state target t₀ marks t = (t ≤ 256) × (state ≡ stemState entry) × (target ≡ stemTarget entry) × (length marks₀ ≡ 4096) × Raised largest entry t marks₀ marks
+Inv-loop marks₀ entry largest state target t₀ marks t = (t ≤ 256) × (state ≡ stemState entry) × (target ≡ stemTarget entry) × (length marks₀ ≡ 4096) × RaisedBelow t largest entry marks₀ marks
 
 abbrev μ-loop : tie.MeasureT-loop
 μ-loop marks₀ entry largest state target t₀ marks t = 256 - t
@@ -63,7 +62,7 @@ loop-again c = (
 )
 
 returns : tie.Need-returns Inv-loop μ-loop
-returns c = rw (le-antisymm (c .before .loop .inv .0) (c .loop-test .left)) at (c .before .loop .inv .4)
+returns c = raised-all _ _ (rw (le-antisymm (c .before .loop .inv .0) (c .loop-test .left)) at (c .before .loop .inv .4))
 
 pub mark-spec : {M : Type 1} → statement M
 mark-spec =
