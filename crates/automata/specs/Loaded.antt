@@ -31,6 +31,9 @@ stepsOf table = autOf (cell table) (record { states = 0; start = 0; accepting = 
 abbrev pub ofPairs : Pairs8 → Context
 ofPairs c = record { reach = c .reach; through = c .through }
 
+abbrev pub asPairs : Context → Pairs8
+asPairs c = record { reach = c .reach; through = c .through }
+
 -- the pairs whose row q stands at q of a list
 unfoldable pub listed : ℕ → List ℕ → ℕ
 listed n rows = pairs n (λ q. getD rows q 0)

@@ -9,7 +9,7 @@ use Rattle.search.specs.declared.Counts.{Counts}
 use Rattle.search.specs.declared.Lengths.{Lengths}
 use Rattle.walk.specs.Walk.{Verdict, included, shown, stemsFull, periodsFull}
 use Rattle.search.specs.Ending.{endingBy, stemShown, periodShown}
-use Rattle.walk.specs.Room.{decided}
+use Rattle.walk.proofs.Runs.{decided}
 use Rattle.inclusion.specs.declared.Answer.{Answer}
 use Rattle.inclusion.specs.declared.Answer.the-variants as says
 use Rattle.inclusion.specs.Answers.{answerTo, numbersOf}

@@ -24,17 +24,6 @@ use Rattle.inclusion.specs.Stopped.{stoppedBy}
 use Rattle.inclusion.proofs.Started.{Ready, ready, model-bounded, rule-small}
 use Rattle.inclusion.proofs.Demands.{demands}
 
--- the six buffers at once
-leaves : {r : Walked} {P : ℕ} {old new : Buffers} {e : Ending} → Concluded r P old new e → new ≡ leftBy r P old
-leaves c = λ i. record {
-  smallest = c .smallest-left i;
-  largest = c .largest-left i;
-  links = c .links-left i;
-  contexts = c .contexts-left i;
-  stem = c .stem-left i;
-  period = c .period-left i;
-}
-
 module _ (model rule : List ℕ) (S P : ℕ) (lent : Buffers) where
   heads : {a b : Head} → outsetOf (judged 16 model) (judged 8 rule) (longEnough S P (sizesOf lent)) ≡ Walks a b → Ready model rule S P lent a b
   unfolding startOf
@@ -95,4 +84,4 @@ module _ (model rule : List ℕ) (S P : ℕ) (lent : Buffers) where
           let same : walk (autOf (cell model-table) a) (autOf (cell rule-table) b) S P ≡ walkOf model rule S P = rw (model-loaded, rule-loaded) in
           demands model rule S P lent
           (answer ∙ ap (answerTo S P) (walked .answer ∙ ap (λ (w : Walked). endingOf w) same) ∙ rw (s, decided))
-          (leaves walked ∙ ap (λ (w : Walked). leftBy w P lent) same ∙ rw (s, left))
+          (walked .left ∙ ap (λ (w : Walked). leftBy w P lent) same ∙ rw (s, left))

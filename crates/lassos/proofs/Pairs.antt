@@ -1,4 +1,4 @@
--- One step of the search over the pairs: a stem or a period that is passed over, and a test. Assumes nothing.
+-- The sets of the periods, one after the other; and one step of the search over the pairs: a stem or a period that is passed over, and a test. Assumes nothing.
 use mathlib.Core.Path.{_≡_, refl, sym, ap, _∙_}
 use mathlib.Core.Bool.{Bool, true, false, cond, _&&_, true≢false}
 use mathlib.Core.List.{List, [], _∷_, _++_}

@@ -14,39 +14,42 @@ use Rattle.acceptance.specs.Lasso.{Aut, opens}
 use Rattle.acceptance.specs.Contexts.{Context, idle, longer}
 use Rattle.acceptance.proofs.Contexts.{Fits, longer-fits}
 use Rattle.growth.specs.Grow.{Outcome, ended, full, table}
-use Rattle.growth.specs.Steps.{gather, only, steps}
+use Rattle.growth.specs.Steps.{gather, steps}
 use Rattle.growth.proofs.Steps.{steps-same, steps-mem}
 use Rattle.growth.proofs.Built.{Inherited}
 use Rattle.growth.proofs.Carried.{mapped, table-map}
 use Rattle.automata.specs.declared.Head.{Head}
 use Rattle.automata.specs.declared.Pairs8.{Pairs8}
-use Rattle.automata.specs.Loaded.{cell, autOf, stepsOf, ofPairs}
+use Rattle.automata.specs.Loaded.{cell, autOf, stepsOf, ofPairs, asPairs}
 use Rattle.covering.specs.Entries.{Period, periodCovers}
+use Rattle.periods.specs.declared.table.Word.{Word}
 use Rattle.periods.specs.Periods.{periodFirst, wordNext, periodNext, periodTable}
 use Rattle.covering.specs.Masks.{covers}
-use Rattle.periods.specs.Candidates.{atState, atLetter}
+use Rattle.periods.specs.Candidates.{moveOf, atState, atLetter}
 use Rattle.covering.proofs.Masks.{covers-contained}
 use Rattle.periods.proofs.Loop.{gather-none}
 
 -- ---- letter by letter
 
--- a move that is made of a word by a letter has the letter's candidates
-pub move-letter : (model : List (List ℕ)) (B : Aut) (p parent : ℕ) (c : Context) (x : ℕ) {d : Pairs8} → ofPairs d ≡ longer 8 B c x
-    → gather 0 16 (atState (record { successors = getD (getD model x []) p 0; letter = x; parent = parent; context = d })) ≡ atLetter model B p parent c x
-unfolding atState atLetter cell
-move-letter model B p parent c x e =
-    ap (λ (d : Context). gather 0 16 (λ q. only (bit (cell model x p) q) (record { link = periodLink q x parent; context = d }))) e
+module _ (model : List (List ℕ)) (B : Aut) (word : Word) where
+  pub move-is : (x : ℕ) {d : Pairs8} → ofPairs d ≡ longer 8 B (ofPairs (word .context)) x
+      → record { successors = getD (getD model x []) (word .state) 0; letter = x; parent = word .parent; context = d } ≡ moveOf model B word x
+  unfolding moveOf cell
+  move-is x e = ap (λ (c : Context). record { successors = getD (getD model x []) (word .state) 0; letter = x; parent = word .parent; context = asPairs c }) e
 
--- where the letter leads nowhere there is none
-pub letter-none : (model : List (List ℕ)) (B : Aut) (p parent : ℕ) (c : Context) (x : ℕ) → getD (getD model x []) p 0 ≡ 0 → atLetter model B p parent c x ≡ []
-unfolding atLetter cell
-letter-none model B p parent c x e =
-    gather-none (λ q. only (bit (cell model x p) q) (record { link = periodLink q x parent; context = longer 8 B c x })) 0 16 (λ q l. rw (e, bit-zero))
+  -- the candidates by the letter x
+  unfoldable pub byLetter : ℕ → List Period
+  byLetter x = atLetter (moveOf model B word x)
 
--- all letters
-pub letters-all : (model : List (List ℕ)) (B : Aut) (p parent : ℕ) (c : Context) → wordNext (stepsOf model) B p parent c ≡ gather 0 16 (atLetter model B p parent c)
-unfolding wordNext steps atLetter autOf
-letters-all model B p parent c = refl
+  -- where it leads nowhere there is none
+  pub letter-none : (x : ℕ) → getD (getD model x []) (word .state) 0 ≡ 0 → byLetter x ≡ []
+  unfolding byLetter atLetter atState moveOf cell
+  letter-none x e = gather-none (atState (moveOf model B word x)) 0 16 (λ q l. rw (e, bit-zero))
+
+  -- all letters
+  pub letters-all : wordNext (stepsOf model) B (word .state) (word .parent) (ofPairs (word .context)) ≡ gather 0 16 byLetter
+  unfolding wordNext steps autOf byLetter atLetter atState moveOf
+  letters-all = refl
 
 -- the word of an entry has the entry's candidates
 pub word-entry : (A B : Aut) (e : Period) {p parent i : ℕ} {c : Context} → p ≡ linkState (e .link) → parent ≡ i → c ≡ e .context → wordNext A B p parent c ≡ periodNext A B i e

@@ -6,14 +6,13 @@ ghost use lib.ListN.{length, getD};
 ghost use Rattle.bits.specs.Bits.{bit};
 ghost use Rattle.bits.specs.Fields.{linkState};
 ghost use Rattle.growth.specs.Grow.{append, offer, table};
-ghost use Rattle.growth.specs.Steps.{gather};
 ghost use Rattle.automata.specs.Loaded.{cell, autOf, stepsOf, ofPairs};
 ghost use Rattle.covering.specs.Entries.{contextIn, held};
 ghost use Rattle.covering.specs.Masks.{covers};
 ghost use Rattle.covering.specs.Chained.{Cleared};
 ghost use Rattle.periods.specs.Periods.{wordNext, periodNext};
 ghost use Rattle.periods.specs.Growing.{Roomy, Ready, Grows, Appends};
-ghost use Rattle.periods.specs.Candidates.{atState, atLetter};
+ghost use Rattle.periods.specs.Candidates.{moveOf, atState, atLetter};
 use automata::Head;
 use automata::Pairs8;
 use automata::eight;
@@ -108,7 +107,7 @@ fn by_letter(
 ) -> Growth
     requires { ⌜ by .letter < 16 ⌝ }
     requires { ⌜ Ready (covers rows) room n (now links) (now contexts) (now chains) ⌝ }
-    ensures { λ r. ⌜ Grows (covers rows) (offer (covers rows) room (held n (now (links .entry)) (now (contexts .entry))) (gather 0 16 (atState by))) r
+    ensures { λ r. ⌜ Grows (covers rows) (offer (covers rows) room (held n (now (links .entry)) (now (contexts .entry))) (atLetter by)) r
         (now (links .entry)) (now (links .exit)) (now (contexts .entry)) (now (contexts .exit)) (now (chains .exit)) ⌝ }
 {
     let mut count = n;
@@ -133,8 +132,7 @@ fn by_letter(
 // A word by one letter: its context is made longer once for all successors.
 fn step(model: &[[u16; 16]; 16], rule: &[[u8; 8]; 16], head: Head, word: Word, x: u8) -> Move
     requires { ⌜ (word .state < 16) × (x < 16) ⌝ }
-    ensures { λ r. ⌜ r .letter ≡ x ⌝ }
-    ensures { λ r. ⌜ gather 0 16 (atState r) ≡ atLetter (now (model .entry)) (autOf (cell (now (rule .entry))) head) (word .state) (word .parent) (ofPairs (word .context)) x ⌝ }
+    ensures { λ r. ⌜ r ≡ moveOf (now (model .entry)) (autOf (cell (now (rule .entry))) head) word x ⌝ }
 {
     Move {
         successors: model[x as usize][word.state as usize],

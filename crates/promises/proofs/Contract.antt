@@ -13,7 +13,7 @@ use Rattle.search.specs.declared.Counts.{Counts}
 use Rattle.search.specs.declared.Lengths.{Lengths}
 use Rattle.walk.specs.Walk.{Verdict, included, shown, stemsFull, periodsFull, Walked}
 use Rattle.search.specs.Ending.{Buffers, countsOf, endingBy, stemShown, periodShown, leftBy}
-use Rattle.walk.specs.Room.{decided as conclusive}
+use Rattle.walk.proofs.Runs.{decided as conclusive}
 use Rattle.walk.proofs.Room.{more-room}
 use Rattle.inclusion.specs.declared.Answer.{Answer}
 use Rattle.inclusion.specs.declared.Answer.the-variants as says

@@ -17,12 +17,12 @@ use Rattle.stems.specs.Stems.{targetCovers, stemCovers, stemRoot, stemNext, ste
 use Rattle.covering.specs.Entries.{periodCovers, contextsOf}
 use Rattle.periods.specs.Periods.{periodFirst, wordNext, periodNext, periodTable}
 use Rattle.walk.specs.Words.{chain}
-use Rattle.walk.specs.Walk.{search, opening, rounds, fits, pairsOf, accepts, run, walk}
+use Rattle.walk.specs.Walk.{search, opening, roundAt, roundsAt, rounds, fits, pairsOf, accepts, run, walk}
 use Rattle.search.specs.Ending.{endingBy, stemShown, periodShown, leftBy}
 use Rattle.loading.specs.Outset.{longEnough, outsetOf}
 use Rattle.inclusion.specs.Answers.{startOf, answerTo, decided, left}
 use Rattle.promises.specs.Samples.{samples, pitfalls, Hold}
 
 pub samples-hold : Hold samples × Hold pitfalls
-unfolding digit pack bit weight setOf any all subset union meets movesTo moved pair row pairs containedOn opens idle movedBy passesBy throughBy movedAll target longer longerAll contextOf append offer grow table gather steps contained over via pathsOver closure turning ledOn leadingInto repeatedBy repeated isRecord among started startIn named statesIn spelled acceptingIn again fault firstFault goodRecords headOf judged goodLetters verdict testedOn tested targetCovers stemCovers stemRoot stemNext stemTable periodCovers periodFirst wordNext periodNext periodTable chain search opening rounds contextsOf fits pairsOf accepts run walk endingBy stemShown periodShown leftBy longEnough outsetOf startOf answerTo decided left
+unfolding digit pack bit weight setOf any all subset union meets movesTo moved pair row pairs containedOn opens idle movedBy passesBy throughBy movedAll target longer longerAll contextOf append offer grow table gather steps contained over via pathsOver closure turning ledOn leadingInto repeatedBy repeated isRecord among started startIn named statesIn spelled acceptingIn again fault firstFault goodRecords headOf judged goodLetters verdict testedOn tested targetCovers stemCovers stemRoot stemNext stemTable periodCovers periodFirst wordNext periodNext periodTable chain search opening roundAt roundsAt rounds contextsOf fits pairsOf accepts run walk endingBy stemShown periodShown leftBy longEnough outsetOf startOf answerTo decided left
 samples-hold = (refl, refl)

@@ -65,7 +65,7 @@ module _ (A B : Aut) (u : List ℕ) (room : ℕ) (few : length u ≤ 4096) (shor
 unfoldable pub Stopped : Rounds → Type 0
 Stopped r = (p t : ℕ) → r ≡ Through p t → ⊥
 
--- the finish of rounds, and of those that follow where none of them was the last
+-- the finish of some rounds and then more: where no lasso was rejected and no table lacked room, that of the rounds that follow
 ahead : Finish → (ℕ → ℕ → Finish) → Finish
 ahead f more = elim (f .verdict) [ included ↦ more (f .periods) (f .tests) | shown x y ↦ f | stemsFull k ↦ f | periodsFull ↦ f ]
 

@@ -11,13 +11,10 @@ use Rattle.bits.specs.Bits.{bit, any}
 use Rattle.bits.specs.Fields.{stemState, stemTarget}
 use Rattle.bits.proofs.Quantifiers.{any-none}
 use Rattle.acceptance.specs.Lasso.{Aut}
-use Rattle.growth.specs.Steps.{gather, only, steps}
+use Rattle.growth.specs.Steps.{gather, only}
 use Rattle.automata.specs.Loaded.{autOf}
 use Rattle.automata.specs.declared.Head.{Head}
-use Rattle.walk.specs.Walk.{opening, rounds}
-use Rattle.rounds.specs.declared.Rounds.{Rounds}
-use Rattle.rounds.specs.Finished.{Finished}
-use Rattle.rounds.specs.Round.{roundAt, roundsAt}
+use Rattle.walk.specs.Walk.{opening, roundAt, roundsAt}
 use Rattle.growth.proofs.Gathered.{gather-nothing}
 
 -- no transition of a loaded automaton is itself accepting, so a period may start at the accepting states
@@ -70,10 +67,3 @@ gather-count f i (suc n) h = omega (arith, length-append (f i) (gather (suc i) n
 pub rounds-count : (A : Aut) (w : List ℕ) (s : ℕ) → length (roundsAt A w s) ≤ length w
 unfolding roundsAt roundFor
 rounds-count A w s = gather-count (roundFor A w s) 0 (length w) (round-count A w s)
-
--- ---- all of them
-
-pub each-ran : (A B : Aut) (u : List ℕ) (room : ℕ) (w : List ℕ) {r : Rounds} {links : List ℕ} → Finished A B u room (gather 0 16 (roundsAt A w)) 0 0 r links
-    → Finished A B u room (rounds A B w) 0 0 r links
-unfolding rounds steps roundsAt roundAt
-each-ran A B u room w h = h

@@ -30,23 +30,18 @@ pub record Prepared (A B : Aut) (S P : ℕ) (lent : Buffers) : Type 0 where
   pub bounded : Bounded 16 16 A
   pub small : Small 8 B
 
--- the answer of a walk, and what it leaves in the buffers
-pub record Concluded (r : Walked) (P : ℕ) (old new : Buffers) (e : Ending) : Type 0 where
-  pub answer : e ≡ endingOf r
-  pub smallest-left : new .smallest ≡ leftBy r P old .smallest
-  pub largest-left : new .largest ≡ leftBy r P old .largest
-  pub links-left : new .links ≡ leftBy r P old .links
-  pub contexts-left : new .contexts ≡ leftBy r P old .contexts
-  pub stem-left : new .stem ≡ leftBy r P old .stem
-  pub period-left : new .period ≡ leftBy r P old .period
-
--- the same before the links and the contexts are cleared
+-- the answer of a walk, and what it leaves in the buffers, before the links and the contexts are cleared
 pub record Told (r : Walked) (old new : Buffers) (e : Ending) : Type 0 where
   pub answer : e ≡ endingOf r
   pub smallest-left : new .smallest ≡ over (r .smallest) (old .smallest)
   pub largest-left : new .largest ≡ over (r .largest) (old .largest)
   pub stem-left : new .stem ≡ over (stemShown (r .finish .verdict)) (old .stem)
   pub period-left : new .period ≡ over (periodShown (r .finish .verdict)) (old .period)
+
+-- the answer of a walk, and what it leaves in all of them
+pub record Concluded (r : Walked) (P : ℕ) (old new : Buffers) (e : Ending) : Type 0 where
+  pub answer : e ≡ endingOf r
+  pub left : new ≡ leftBy r P old
 
 -- ---- the words of a rejected lasso
 

@@ -4,7 +4,6 @@ use mathlib.Core.Bool.{true, false}
 use mathlib.Core.List.{List, [], _∷_}
 use Prim.Native.Nat.{ℕ}
 use Rattle.bits.specs.Bits.{bit}
-use Rattle.bits.specs.Sets.{byRows}
 use Rattle.bits.specs.Fields.{stemEntry}
 use Rattle.growth.specs.Steps.{gather, steps}
 use Rattle.acceptance.specs.Contexts.{movedBy}
@@ -24,12 +23,12 @@ module _ (by : Move) (q : ℕ) where
   state-none p = rw p
 
 module _ (model rule : List (List ℕ)) where
-  -- those of the letter x
+  -- the candidates by the letter x
   unfoldable pub byLetter : (parent entry x : ℕ) → List ℕ
   byLetter parent entry x = atLetter (moveOf model rule parent entry x)
 
   pub letters-all : (parent entry : ℕ) → stemNext (stepsOf model) (stepsOf rule) parent entry ≡ gather 0 16 (byLetter parent entry)
-  unfolding stemNext steps autOf movedBy cell byRows byLetter atLetter atState moveOf
+  unfolding stemNext steps autOf byLetter atLetter atState moveOf
   letters-all parent entry = refl
 
   -- where the automata start and what they accept does not matter

@@ -34,7 +34,7 @@ module _ (largest : Bool) where
 
 -- ---- flags raised
 
--- the same at the targets below t
+-- `Raised`, at the targets below t
 pub record RaisedBelow (t : ℕ) (largest : Bool) (entry : ℕ) (old new : List ℕ) : Type 0 where
   pub long : length new ≡ length old
   pub flag : (i : ℕ) → i < 4096 → getD new i 0 ≡ cond (stemCovers largest entry i && ltb (stemTarget i) t) 1 (getD old i 0)

@@ -1,12 +1,11 @@
 -- The candidates that one letter gives. Assumes nothing.
-use mathlib.Core.List.{List, []}
+use mathlib.Core.List.{List}
 use Prim.Native.Nat.{ℕ}
-use lib.ListN.{getD}
 use Rattle.bits.specs.Bits.{bit}
-use Rattle.bits.specs.Sets.{moved, byRows}
 use Rattle.bits.specs.Fields.{stemEntry, stemTarget, stemState}
+use Rattle.acceptance.specs.Contexts.{movedBy}
 use Rattle.growth.specs.Steps.{gather, only}
-use Rattle.automata.specs.Loaded.{cell}
+use Rattle.automata.specs.Loaded.{cell, stepsOf}
 use Rattle.stems.specs.declared.Move.{Move}
 
 -- the entry at index `parent` by the letter x
@@ -14,7 +13,7 @@ unfoldable pub moveOf : (model rule : List (List ℕ)) (parent entry x : ℕ) �
 moveOf model rule parent entry x =
     record {
       successors = cell model x (stemState entry);
-      target = moved 8 (byRows (getD rule x [])) (stemTarget entry);
+      target = movedBy 8 (stepsOf rule) (stemTarget entry) x;
       letter = x;
       parent = parent;
     }

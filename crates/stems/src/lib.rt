@@ -7,6 +7,7 @@ ghost use Prim.Native.Nat.{_^_, _≤_, _<_};
 ghost use lib.ListN.{length, getD, take};
 ghost use Rattle.bits.specs.Fields.{stemEntry};
 ghost use Rattle.automata.specs.Loaded.{cell, autOf, stepsOf};
+// `grow` is a name of this crate too.
 ghost use Rattle.growth.specs.Grow.{grow as taken};
 ghost use Rattle.stems.specs.Stems.{stemCovers, stemNext, stemTable};
 ghost use Rattle.stems.specs.Held.{Held};

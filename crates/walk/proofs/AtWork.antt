@@ -19,7 +19,7 @@ use Rattle.stems.specs.Stems.{targetCovers, stemCovers, stemRoot, stemNext, ste
 use Rattle.covering.specs.Entries.{periodCovers, contextsOf}
 use Rattle.periods.specs.Periods.{periodFirst, wordNext, periodNext, periodTable}
 use Rattle.walk.specs.Words.{chain}
-use Rattle.walk.specs.Walk.{Verdict, included, shown, stemsFull, periodsFull, Walked, search, opening, rounds, fits, pairsOf, accepts, run, walk}
+use Rattle.walk.specs.Walk.{Verdict, included, shown, stemsFull, periodsFull, Walked, search, opening, roundAt, roundsAt, rounds, fits, pairsOf, accepts, run, walk}
 
 -- some element of a list has f
 abbrev some : {E : Type 0} → (E → Bool) → List E → Bool
@@ -89,5 +89,5 @@ pub samples-told : (map told samples ≡
     × (map told pitfalls ≡
     (shown [] (1 ∷ 0 ∷ []), 2, 3, 3, 3) ∷ (shown (1 ∷ []) (1 ∷ []), 2, 2, 1, 1) ∷ (included, 2, 2, 2, 4) ∷ (included, 2, 2, 2, 4) ∷ (shown [] (0 ∷ []), 1, 2, 1, 1)
     ∷ (shown (0 ∷ []) (1 ∷ []), 4, 2, 2, 2) ∷ (included, 2, 2, 2, 1) ∷ (shown (0 ∷ 1 ∷ []) (0 ∷ []), 3, 3, 1, 1) ∷ [])
-unfolding digit pack bit weight setOf any all subset union meets movesTo moved pair row pairs containedOn opens movedBy passesBy throughBy idle longer via pathsOver closure turning ledOn leadingInto repeatedBy repeated append offer grow table gather steps targetCovers stemCovers stemRoot stemNext stemTable periodCovers contained periodFirst wordNext periodNext periodTable chain search opening rounds contextsOf fits pairsOf accepts run walk
+unfolding digit pack bit weight setOf any all subset union meets movesTo moved pair row pairs containedOn opens movedBy passesBy throughBy idle longer via pathsOver closure turning ledOn leadingInto repeatedBy repeated append offer grow table gather steps targetCovers stemCovers stemRoot stemNext stemTable periodCovers contained periodFirst wordNext periodNext periodTable chain search opening roundAt roundsAt rounds contextsOf fits pairsOf accepts run walk
 samples-told = (refl, refl)

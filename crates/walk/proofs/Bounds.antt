@@ -16,15 +16,22 @@ use Rattle.acceptance.specs.Contexts.{Small}
 use Rattle.growth.specs.Grow.{Complete}
 use Rattle.growth.specs.Numbered.{Bounded, Numbered}
 use Rattle.growth.specs.Tables.{members}
+use Rattle.growth.specs.Steps.{steps}
 use Rattle.growth.proofs.Steps.{steps-mem, steps-length, column-length}
 use Rattle.stems.proofs.Packed.{stem-bound, stem-enough}
 use Rattle.covering.specs.Entries.{Period, linksOf, contextsOf}
 use Rattle.periods.specs.Periods.{periodTable}
 use Rattle.periods.proofs.Packed.{period-bound, period-bound-all, period-enough}
-use Rattle.walk.specs.Walk.{Finish, Walked, Search, fits, searchRound, opening, rounds, pairsOf, accepts, walk}
-use Rattle.walk.specs.Room.{decided, Bounds}
-use Rattle.walk.proofs.Runs.{made, searched, searched-made, Ran, done, lacking, going, found, Walks, u-full, w-full, ran, walks}
+use Rattle.walk.specs.Walk.{Finish, Walked, Search, fits, searchRound, opening, roundAt, roundsAt, rounds, pairsOf, accepts, walk}
+use Rattle.walk.proofs.Runs.{decided, made, searched, searched-made, Ran, done, lacking, going, found, Walks, u-full, w-full, ran, walks}
 use Rattle.walk.proofs.Rounds.{tableW, tableV, round-of, round-reached, round-rows}
+
+-- the counts of automata with a and b states, whatever the room
+pub record Bounds (a b : ℕ) (r : Walked) : Type 0 where
+  pub u-bound : length (r .smallest) ≤ a * 2 ^ b
+  pub w-bound : length (r .largest) ≤ a * 2 ^ b
+  pub p-bound : r .finish .periods ≤ a * 3 ^ (b * b)
+  pub t-bound : r .finish .tests ≤ length (r .smallest) * length (r .largest) * r .finish .periods
 
 -- ---- t ≤ u · w · p
 
@@ -57,13 +64,13 @@ module _ {A B : Aut} {u : List ℕ} where
 
 -- each entry of W is at one state
 rounds-length : (A B : Aut) (w : List ℕ) → length (rounds A B w) ≤ length w
-unfolding rounds
+unfolding rounds roundsAt roundAt steps
 rounds-length A B w =
     column-length 16 (length w) (λ s k. opening A s && eqb (stemState (getD w k 0)) s) (λ k. stemState (getD w k 0)) (λ s k. (s, stemTarget (getD w k 0)))
     (λ s k t. sym (eqb-true (stemState (getD w k 0)) s (and-right (opening A s) (eqb (stemState (getD w k 0)) s) t)))
 
 no-rounds : (A B : Aut) {c : ℕ × ℕ} → List·Memᴰ c (rounds A B []) → ⊥
-unfolding rounds
+unfolding rounds roundsAt roundAt steps
 no-rounds A B m =
     let (_, _, _, l, _, _) = steps-mem 16 0 (λ s k. opening A s && eqb (stemState 0) s) (λ s k. (s, stemTarget 0)) m in
     omega arith

@@ -18,8 +18,8 @@ use Rattle.covering.specs.Entries.{Period, periodCovers, linksOf}
 use Rattle.periods.specs.Periods.{periodFirst, periodNext, periodTable}
 use Rattle.walk.specs.Walk.{shown, stemsFull, periodsFull, Finish, run}
 use Rattle.walk.specs.Words.{stemWord, periodWord}
-use Rattle.walk.specs.Room.{decided, Visit, visits, stopsAt}
-use Rattle.walk.proofs.Runs.{Ran, done, lacking, going, found}
+use Rattle.walk.specs.Room.{Visit, visits, stopsAt}
+use Rattle.walk.proofs.Runs.{decided, Ran, done, lacking, going, found}
 
 -- ---- tables with other room
 

@@ -3,6 +3,7 @@
 use mathlib.Core.Path.{_≡_, refl, sym, ap, _∙_}
 use mathlib.Core.Logic.{_↔_}
 use mathlib.Core.Bool.{true, false, true≢false}
+use mathlib.Core.Option.{some}
 use mathlib.Core.List.{List}
 use Prim.Native.Nat.{ℕ, _*_, _^_, _≤_, _<_, max}
 use native.Mathlib.Nat.{le-refl}
@@ -12,11 +13,17 @@ use lib.ListN.{length}
 use Rattle.acceptance.specs.Lasso.{Aut}
 use Rattle.acceptance.specs.Contexts.{Small}
 use Rattle.growth.specs.Numbered.{Bounded, Numbered}
-use Rattle.walk.specs.Walk.{stemsFull, Finish, Walked, rounds, walk, unhindered}
-use Rattle.walk.specs.Room.{decided, Filled, Visit, visits, visited, Short}
-use Rattle.walk.proofs.Runs.{runs, Walks, u-full, w-full, ran, walks, walk-is, Whole, whole}
+use Rattle.walk.specs.Walk.{stemsFull, periodsFull, Finish, Walked, rounds, walk, unhindered}
+use Rattle.walk.specs.Room.{Visit, visits, visited, stopsAt}
+use Rattle.walk.proofs.Runs.{decided, runs, Walks, u-full, w-full, ran, walks, walk-is, Whole, whole}
 use Rattle.walk.proofs.Cut.{stems, with-more, ran-more, ran-filled, ran-not-stems, Cut, uncut, cut, ran-cut}
 use Rattle.walk.proofs.Bounds.{walk-decided}
+
+-- the counts where a table lacks room: it is filled, and nothing later was begun
+pub record Filled (S P : ℕ) (r : Walked) : Type 0 where
+  pub in-u : r .finish .verdict ≡ stemsFull 0 → (length (r .smallest) ≡ S) × (length (r .largest) ≡ 0) × (r .finish .periods ≡ 0) × (r .finish .tests ≡ 0)
+  pub in-w : r .finish .verdict ≡ stemsFull 1 → (length (r .largest) ≡ S) × (r .finish .periods ≡ 0) × (r .finish .tests ≡ 0)
+  pub in-periods : r .finish .verdict ≡ periodsFull → r .finish .periods ≡ P
 
 -- after 8 and 9 the table that lacks room is filled
 pub walk-filled : (A B : Aut) (S P : ℕ) → Filled S P (walk A B S P)
@@ -76,6 +83,13 @@ told A B S M P N {free} h d = at (decLe (length u) S) (decLe (length w) S)
 
 neither : {X Y : Type 0} → (X → ⊥) → (Y → ⊥) → X ↔ Y
 neither f g = (λ x. absurd (f x), λ y. absurd (g y))
+
+-- A walk with room for S stems and P periods stops exactly where the walk without room needs more: 8 in U, 8 in W, 9, where the tests made are
+-- those that it made up to there.
+pub record Short (free : Walked) (tables : List Visit) (S P : ℕ) (f : Finish) : Type 0 where
+  pub of-u : (f .verdict ≡ stemsFull 0) ↔ (S < length (free .smallest))
+  pub of-w : (f .verdict ≡ stemsFull 1) ↔ ((length (free .smallest) ≤ S) × (S < length (free .largest)))
+  pub of-periods : (f .verdict ≡ periodsFull) ↔ ((length (free .smallest) ≤ S) × (length (free .largest) ≤ S) × (stopsAt P tables ≡ some (f .tests)))
 
 short-told : {free : Walked} {tables : List Visit} {S P : ℕ} {f : Finish} → decided (free .finish .verdict) ≡ true → Told free tables S P f → Short free tables S P f
 short-told d (u-lacks l) = record {

@@ -18,6 +18,7 @@ use Rattle.acceptance.proofs.Targets.{target-is}
 use Rattle.growth.specs.Numbered.{Bounded}
 use Rattle.growth.specs.Nodes.{Node}
 use Rattle.growth.proofs.Entries.{At}
+use Rattle.growth.specs.Steps.{steps}
 use Rattle.growth.proofs.Steps.{mem-steps, steps-mem}
 use Rattle.growth.proofs.Stems.{stems-true}
 use Rattle.growth.proofs.Inclusion.{Opening}
@@ -25,7 +26,7 @@ use Rattle.stems.proofs.Packed as stems
 use Rattle.stems.proofs.Packed.{stemEntries, packedStems, stemKind}
 use Rattle.covering.specs.Entries.{Period}
 use Rattle.periods.proofs.Packed.{packedPeriods}
-use Rattle.walk.specs.Walk.{opening, rounds}
+use Rattle.walk.specs.Walk.{opening, roundAt, roundsAt, rounds}
 
 -- a state where a period can start opens one
 opening-true : {A : Aut} → Bounded 16 16 A → {s : ℕ} → Opening A s → opening A s ≡ true
@@ -67,13 +68,13 @@ pub record Round (A B : Aut) (S : ℕ) (c : ℕ × ℕ) : Type 0 where
   pub load : entry .load ≡ c .1
 
 module _ {A B : Aut} (bound : Bounded 16 16 A) (small : Small 8 B) (S : ℕ) where
-  roundAt : ℕ → ℕ → Bool
-  roundAt s k = opening A s && eqb (stemState (getD (tableW A B S) k 0)) s
+  chosen : ℕ → ℕ → Bool
+  chosen s k = opening A s && eqb (stemState (getD (tableW A B S) k 0)) s
 
   pub round-of : {c : ℕ × ℕ} → List·Memᴰ c (rounds A B (tableW A B S)) → Round A B S c
-  unfolding rounds roundAt
+  unfolding rounds roundsAt roundAt chosen steps
   round-of m =
-      let (s, k, _, l, t, same) = steps-mem 16 (length (tableW A B S)) roundAt (λ s k. (s, stemTarget (getD (tableW A B S) k 0))) m in
+      let (s, k, _, l, t, same) = steps-mem 16 (length (tableW A B S)) chosen (λ s k. (s, stemTarget (getD (tableW A B S) k 0))) m in
       let (w, a) = stems.stem-entry bound small true S k l in
       rw same (record {
         index = k;
@@ -84,10 +85,10 @@ module _ {A B : Aut} (bound : Bounded 16 16 A) (small : Small 8 B) (S : ℕ) whe
       })
 
   pub round-mem : {k s : ℕ} {w : Node ℕ} → At (stemEntries A B true S) k w → w .state ≡ s → Opening A s → List·Memᴰ (s, w .load) (rounds A B (tableW A B S))
-  unfolding rounds roundAt
+  unfolding rounds roundsAt roundAt chosen steps
   round-mem {k} {s} {w} a q o =
       rw (← (stems.target-at bound small true S a))
-      (mem-steps 16 (length (tableW A B S)) roundAt (λ s k. (s, stemTarget (getD (tableW A B S) k 0))) s k
+      (mem-steps 16 (length (tableW A B S)) chosen (λ s k. (s, stemTarget (getD (tableW A B S) k 0))) s k
       (rw q at (stems.stem-fits bound small true S .each a .state-fits)) (stems.stem-below bound small true S a)
       (and-both (opening A s) (eqb (stemState (getD (tableW A B S) k 0)) s) (opening-true bound o) (eq-eqb _ _ (stems.state-at bound small true S a ∙ q))))
 

@@ -11,8 +11,14 @@ use Rattle.stems.specs.Stems.{stemTable}
 use Rattle.covering.specs.Entries.{Period, linksOf}
 use Rattle.periods.specs.Periods.{periodTable}
 use Rattle.walk.specs.Words.{stemWord, periodWord}
-use Rattle.walk.specs.Walk.{included, shown, stemsFull, periodsFull, Finish, Walked, Search, passed, rejected, search, rounds, searchRound, run, walk}
-use Rattle.walk.specs.Room.{decided}
+use Rattle.walk.specs.Walk.{Verdict, included, shown, stemsFull, periodsFull, Finish, Walked, Search, passed, rejected, search, rounds, searchRound, run, walk}
+
+-- a verdict is given: answer 0
+abbrev pub decided : Verdict → Bool
+decided included = true
+decided (shown u v) = true
+decided (stemsFull k) = false
+decided periodsFull = false
 
 -- ---- the tests of one round
 

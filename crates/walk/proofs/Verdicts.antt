@@ -17,8 +17,7 @@ use Rattle.periods.specs.Periods.{periodTable}
 use Rattle.periods.proofs.Packed.{period-complete}
 use Rattle.walk.specs.Words.{stemWord, periodWord}
 use Rattle.walk.specs.Walk.{included, shown, Finish, rounds, pairsOf, accepts, walk, passed, rejected}
-use Rattle.walk.specs.Room.{decided}
-use Rattle.walk.proofs.Runs.{Searched, all-pass, one-fails, searched, Ran, done, lacking, going, found, walks, whole}
+use Rattle.walk.proofs.Runs.{decided, Searched, all-pass, one-fails, searched, Ran, done, lacking, going, found, walks, whole}
 use Rattle.walk.proofs.Rounds.{tableU, tableV, tableW, round-of, round-mem}
 use Rattle.walk.proofs.Tests.{judged, test-round, test-pair, pair-test, pair-judged}
 

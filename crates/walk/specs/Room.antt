@@ -1,36 +1,14 @@
--- What the room does to a walk, told from the walk without room (document 01, the numbers 0, 8 and 9; "Counts"). Assumes nothing.
-use mathlib.Core.Path.{_≡_}
-use mathlib.Core.Logic.{_↔_}
-use mathlib.Core.Bool.{Bool, true, false}
+-- The period tables that the walk without room comes to, and the first of them that needs more than P (document 01, the number 9). Assumes nothing.
+use mathlib.Core.Bool.{true, false}
 use mathlib.Core.Option.{Option, none, some}
 use mathlib.Core.List.{List, [], _∷_}
-use Prim.Native.Nat.{ℕ, _*_, _^_, _≤_, _<_}
+use Prim.Native.Nat.{ℕ, _*_, _^_}
 use lib.Dec.{ltb}
 use lib.ListN.{length}
 use Rattle.acceptance.specs.Lasso.{Aut}
 use Rattle.growth.specs.Grow.{ended, full}
 use Rattle.periods.specs.Periods.{periodTable}
-use Rattle.walk.specs.Walk.{Verdict, included, shown, stemsFull, periodsFull, Finish, Walked, passed, rejected, searchRound, rounds, unhindered}
-
--- a verdict is given: answer 0
-abbrev pub decided : Verdict → Bool
-decided included = true
-decided (shown u v) = true
-decided (stemsFull k) = false
-decided periodsFull = false
-
--- the counts of automata with a and b states, whatever the room
-pub record Bounds (a b : ℕ) (r : Walked) : Type 0 where
-  pub u-bound : length (r .smallest) ≤ a * 2 ^ b
-  pub w-bound : length (r .largest) ≤ a * 2 ^ b
-  pub p-bound : r .finish .periods ≤ a * 3 ^ (b * b)
-  pub t-bound : r .finish .tests ≤ length (r .smallest) * length (r .largest) * r .finish .periods
-
--- the counts where a table lacks room: it is filled, and nothing later was begun
-pub record Filled (S P : ℕ) (r : Walked) : Type 0 where
-  pub in-u : r .finish .verdict ≡ stemsFull 0 → (length (r .smallest) ≡ S) × (length (r .largest) ≡ 0) × (r .finish .periods ≡ 0) × (r .finish .tests ≡ 0)
-  pub in-w : r .finish .verdict ≡ stemsFull 1 → (length (r .largest) ≡ S) × (r .finish .periods ≡ 0) × (r .finish .tests ≡ 0)
-  pub in-periods : r .finish .verdict ≡ periodsFull → r .finish .periods ≡ P
+use Rattle.walk.specs.Walk.{passed, rejected, searchRound, rounds, unhindered}
 
 -- a period table that a walk comes to: its entries, and the tests made before it
 pub record Visit : Type 0 where
@@ -56,10 +34,3 @@ module _ (A B : Aut) where
 unfoldable pub stopsAt : ℕ → List Visit → Option ℕ
 stopsAt P [] = none
 stopsAt P (x ∷ xs) = elim (ltb P (x .size)) [ true ↦ some (x .before) | false ↦ stopsAt P xs ]
-
--- A walk with room for S stems and P periods stops exactly where the walk without room needs more: 8 in U, 8 in W, 9, where the tests made are
--- those that it made up to there.
-pub record Short (free : Walked) (tables : List Visit) (S P : ℕ) (f : Finish) : Type 0 where
-  pub of-u : (f .verdict ≡ stemsFull 0) ↔ (S < length (free .smallest))
-  pub of-w : (f .verdict ≡ stemsFull 1) ↔ ((length (free .smallest) ≤ S) × (S < length (free .largest)))
-  pub of-periods : (f .verdict ≡ periodsFull) ↔ ((length (free .smallest) ≤ S) × (length (free .largest) ≤ S) × (stopsAt P tables ≡ some (f .tests)))

@@ -9,7 +9,7 @@ use Rattle.bits.specs.Sets.{subset, meets}
 use Rattle.bits.specs.Fields.{stemState, stemTarget, linkState}
 use Rattle.acceptance.specs.Lasso.{Word, Aut}
 use Rattle.growth.specs.Grow.{ended, full}
-use Rattle.growth.specs.Steps.{steps}
+use Rattle.growth.specs.Steps.{gather, only, steps}
 use Rattle.automata.specs.Repeated.{repeated}
 use Rattle.stems.specs.Stems.{stemTable}
 use Rattle.covering.specs.Entries.{Period, linksOf, contextsOf, contextIn}
@@ -66,10 +66,18 @@ module _ (u : List ℕ) where
 unfoldable pub opening : Aut → ℕ → Bool
 opening A s = A .final s || any (λ x. any (λ q. A .step s x q && A .mark s x q) 16) 16
 
+-- the round of an entry of W at such an s: s and the entry's target
+unfoldable pub roundAt : Aut → ℕ → ℕ → List (ℕ × ℕ)
+roundAt A s e = only (opening A s && eqb (stemState e) s) (s, stemTarget e)
+
+-- those of each entry w of W, in table order
+unfoldable pub roundsAt : Aut → List ℕ → ℕ → List (ℕ × ℕ)
+roundsAt A w s = gather 0 (length w) (λ k. roundAt A s (getD w k 0))
+
 module _ (A B : Aut) where
-  -- for each such s, rising, each entry w of W at s in table order: s and w's target
+  -- for each s, rising
   unfoldable pub rounds : List ℕ → List (ℕ × ℕ)
-  rounds w = steps 16 (length w) (λ s k. opening A s && eqb (stemState (getD w k 0)) s) (λ s k. (s, stemTarget (getD w k 0)))
+  rounds w = gather 0 16 (roundsAt A w)
 
   module _ (u : List ℕ) where
     -- the rounds in order, each with its period table built afresh; p and t are the counts so far

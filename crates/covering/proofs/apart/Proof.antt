@@ -1,4 +1,4 @@
--- `scan::apart` meets its contract: the first number decides, or else the second. Assumes nothing.
+-- `apart` meets its contract: the first number decides, or else the second. Assumes nothing.
 use mathlib.Core.Path.{sym}
 use Rattle.covering.proofs.Masks.{apart-not, apart-then}
 use borrow.Author.Needs.{needs}

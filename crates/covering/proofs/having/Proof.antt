@@ -1,4 +1,4 @@
--- `scan::having` meets its contract by computation. Assumes nothing.
+-- `having` meets its contract by computation. Assumes nothing.
 use mathlib.Core.Path.{refl}
 use Rattle.covering.specs.Masks.{having}
 use Rattle.covering.proofs.having.Statement.{statement}

@@ -1,4 +1,4 @@
--- `scan::holds` meets its contract: the first number decides, or else the second. Assumes nothing.
+-- `holds` meets its contract: the first number decides, or else the second. Assumes nothing.
 use mathlib.Core.Path.{sym}
 use Rattle.covering.proofs.Masks.{holds-not, holds-then}
 use borrow.Author.Needs.{needs}

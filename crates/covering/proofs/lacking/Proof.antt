@@ -1,4 +1,4 @@
--- `scan::lacking` meets its contract by computation. Assumes nothing.
+-- `lacking` meets its contract by computation. Assumes nothing.
 use mathlib.Core.Path.{refl}
 use Rattle.covering.specs.Masks.{lacking}
 use Rattle.covering.proofs.lacking.Statement.{statement}

@@ -1,4 +1,4 @@
--- `scan::pass` meets its contract. Assumes nothing.
+-- `pass` meets its contract. Assumes nothing.
 use mathlib.Core.Path.{_≡_, sym, ap, _∙_}
 use mathlib.Core.Bool.{Bool, true, false, cond}
 use borrow.Author.Needs.{needs}

@@ -1,4 +1,4 @@
--- `scan::to_front` meets its contract. Assumes nothing.
+-- `to_front` meets its contract. Assumes nothing.
 use mathlib.Core.Path.{refl}
 use Rattle.covering.specs.Chained.{toFront}
 use borrow.Author.Needs.{needs}

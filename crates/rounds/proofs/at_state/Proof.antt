@@ -1,7 +1,7 @@
 -- `at_state` meets its contract. The loop's invariant: the rounds from k on give what all give, each with few tests, and the tables stay as long as they are. Assumes nothing.
 use Rattle.rounds.proofs.States.{opening-is, roundFor, no-rounds, round-count}
 use Rattle.rounds.proofs.Onward.{Stopped, Onward, onward-begin, onward-next, onward-stop, onward-done, none-ran, ready-on, tests-more}
-use Rattle.rounds.specs.Round.{roundsAt}
+use Rattle.walk.specs.Walk.{roundsAt}
 use Rattle.automata.specs.Loaded.{cell, autOf}
 use borrow.Author.Tests.{not-true, not-false}
 use native.Mathlib.Omega.{arith}

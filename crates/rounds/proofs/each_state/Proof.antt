@@ -1,7 +1,7 @@
 -- `each_state` meets its contract. The loop's invariant: the rounds from s on give what all give, each with few tests, and the tables stay as long as they are. Assumes nothing.
-use Rattle.rounds.proofs.States.{rounds-count, each-ran}
+use Rattle.rounds.proofs.States.{rounds-count}
 use Rattle.rounds.proofs.Onward.{Stopped, Onward, onward-begin, onward-next, onward-stop, onward-done, ready-on, tests-more}
-use Rattle.rounds.specs.Round.{roundsAt}
+use Rattle.walk.specs.Walk.{roundsAt, rounds}
 use Rattle.automata.specs.Loaded.{cell, autOf}
 use Prim.Native.Nat.{_*_, _^_, _-_, _≤_}
 use native.Mathlib.Omega.{arith}
@@ -46,12 +46,11 @@ same-length-3 : tie.Need-same-length-3 Inv-loop μ-loop
 same-length-3 c = search needs
 
 returns : tie.Need-returns Inv-loop μ-loop
-unfolding Stopped
+unfolding rounds Stopped
 returns c =
     let args = c .before .before .before .before .before .before .before .before .before .before .before .before .before .before .before .before .before .before .args in
     let loop = c .before .before .before .before .before .before .before .before .before .before .before .before .loop in
-    each-ran (autOf (cell (args .model .now)) (args .model-head)) (autOf (cell (args .rule .now)) (args .rule-head)) (args .stems .now) (args .room) (args .largest .now)
-    (onward-stop (autOf (cell (args .model .now)) (args .model-head)) (autOf (cell (args .rule .now)) (args .rule-head)) (args .stems .now) (args .room) (roundsAt (autOf (cell (args .model .now)) (args .model-head)) (args .largest .now)) 16 0 0 (loop .inv .5) (c .before .before .before .before .before .before .before .before .before .before .before .loop-test .taken) (c .before .before .before .before .before .before .before .at-state .ensures) (λ q y e. ⊎-elim (λ z. omega arith) (λ z. omega arith) (rw e at (c .match .keys2))))
+    onward-stop (autOf (cell (args .model .now)) (args .model-head)) (autOf (cell (args .rule .now)) (args .rule-head)) (args .stems .now) (args .room) (roundsAt (autOf (cell (args .model .now)) (args .model-head)) (args .largest .now)) 16 0 0 (loop .inv .5) (c .before .before .before .before .before .before .before .before .before .before .before .loop-test .taken) (c .before .before .before .before .before .before .before .at-state .ensures) (λ q y e. ⊎-elim (λ z. omega arith) (λ z. omega arith) (rw e at (c .match .keys2)))
 
 add-s : tie.Need-add-s Inv-loop μ-loop
 add-s c = omega (arith, c .before .before .before .before .before .before .before .before .before .before .before .before .before .loop-test .taken)
@@ -85,10 +84,10 @@ same-length-6 : tie.Need-same-length-6 Inv-loop μ-loop
 same-length-6 c = search needs
 
 returns-2 : tie.Need-returns-2 Inv-loop μ-loop
+unfolding rounds
 returns-2 c =
     let args = c .before .before .before .before .before .before .before .args in
-    each-ran (autOf (cell (args .model .now)) (args .model-head)) (autOf (cell (args .rule .now)) (args .rule-head)) (args .stems .now) (args .room) (args .largest .now)
-    (onward-done (autOf (cell (args .model .now)) (args .model-head)) (autOf (cell (args .rule .now)) (args .rule-head)) (args .stems .now) (args .room) (roundsAt (autOf (cell (args .model .now)) (args .model-head)) (args .largest .now)) 16 0 0 (c .before .loop .inv .5) (c .loop-test .left))
+    onward-done (autOf (cell (args .model .now)) (args .model-head)) (autOf (cell (args .rule .now)) (args .rule-head)) (args .stems .now) (args .room) (roundsAt (autOf (cell (args .model .now)) (args .model-head)) (args .largest .now)) 16 0 0 (c .before .loop .inv .5) (c .loop-test .left)
 
 pub each-state-spec : {M : Type 1} → statement M
 each-state-spec =

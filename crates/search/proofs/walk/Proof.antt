@@ -88,14 +88,18 @@ returns c =
     let start = c .before .before .before .before .before .before .before .before .before .before .before .before .before .before .before .before .before .before .before .before .before .before .before .before .before .before .before .before .before .before .before .before .before in
     let args = start .args in
     let told = c .before .before .before .before .before .before .before .before .before .before .before .before .before .before .before .before .before .before .before .before .tell .ensures in
+    let links = put-clear (args .period-room) (args .links .now) (c .before .before .before .before .before .before .before .before .before .before .before .before .before .before .before .before .before .before .before .before .tell .last .1 .1 .1 .1 .1 .1 .1 .1 .0) (start .pre .links-fit) (c .before .before .before .before .before .before .before .before .before .before .before .before .before .before .before .before .before .before .before .before .tell .kept .1 .1 .1 .1 .1 .1 .1 .1 .0) (c .before .before .before .before .before .before .clear-links .ensures) in
+    let contexts = put-clear (2 * args .period-room) (args .contexts .now) (c .before .before .before .before .before .before .before .before .before .before .before .before .before .before .before .before .before .before .before .before .tell .last .1 .1 .1 .1 .1 .1 .1 .1 .1 .0) (start .pre .contexts-fit) (c .before .before .before .before .before .before .before .before .before .before .before .before .before .before .before .before .before .before .before .before .tell .kept .1 .1 .1 .1 .1 .1 .1 .1 .1 .0) (c .before .before .clear-contexts .ensures) in
     record {
       answer = told .answer;
-      smallest-left = told .smallest-left;
-      largest-left = told .largest-left;
-      links-left = put-clear (args .period-room) (args .links .now) (c .before .before .before .before .before .before .before .before .before .before .before .before .before .before .before .before .before .before .before .before .tell .last .1 .1 .1 .1 .1 .1 .1 .1 .0) (start .pre .links-fit) (c .before .before .before .before .before .before .before .before .before .before .before .before .before .before .before .before .before .before .before .before .tell .kept .1 .1 .1 .1 .1 .1 .1 .1 .0) (c .before .before .before .before .before .before .clear-links .ensures);
-      contexts-left = put-clear (2 * args .period-room) (args .contexts .now) (c .before .before .before .before .before .before .before .before .before .before .before .before .before .before .before .before .before .before .before .before .tell .last .1 .1 .1 .1 .1 .1 .1 .1 .1 .0) (start .pre .contexts-fit) (c .before .before .before .before .before .before .before .before .before .before .before .before .before .before .before .before .before .before .before .before .tell .kept .1 .1 .1 .1 .1 .1 .1 .1 .1 .0) (c .before .before .clear-contexts .ensures);
-      stem-left = told .stem-left;
-      period-left = told .period-left;
+      left = λ i. record {
+        smallest = told .smallest-left i;
+        largest = told .largest-left i;
+        links = links i;
+        contexts = contexts i;
+        stem = told .stem-left i;
+        period = told .period-left i;
+      };
     }
 
 pub walk-spec : {M : Type 1} → statement M

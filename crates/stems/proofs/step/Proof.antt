@@ -1,5 +1,7 @@
 -- `step` meets its contract: its calls give the fields. Assumes nothing.
-use Rattle.automata.specs.Loaded.{cell}
+use Rattle.bits.specs.Sets.{byRows}
+use Rattle.acceptance.specs.Contexts.{movedBy}
+use Rattle.automata.specs.Loaded.{cell, autOf}
 use Rattle.stems.specs.Candidates.{moveOf}
 use borrow.Author.Needs.{needs}
 use Rattle.stems.proofs.step.Statement.{statement}
@@ -39,7 +41,7 @@ cast-t20 : tie.Need-cast-t20
 cast-t20 c = search needs
 
 returns : tie.Need-returns
-unfolding moveOf cell
+unfolding moveOf movedBy autOf byRows cell
 returns c = simp (c .before .before .before .before .stem-state .ensures, c .moved .ensures, c .before .before .before .stem-target .ensures)
 
 pub step-spec : {M : Type 1} → statement M

@@ -2,11 +2,10 @@
 use mathlib.Core.Path.{refl, _∙_}
 use native.Mathlib.Omega.{arith}
 use Rattle.growth.specs.Grow.{offer}
-use Rattle.growth.specs.Steps.{gather}
 use Rattle.covering.specs.Entries.{held}
 use Rattle.covering.specs.Masks.{covers}
 use Rattle.periods.proofs.Going.{Going}
-use Rattle.periods.specs.Candidates.{atState}
+use Rattle.periods.specs.Candidates.{atState, atLetter}
 use Rattle.periods.proofs.Rest.{Rest, rest-start, rest-half, rest-low, rest-odd, rest-even, rest-none}
 use Rattle.periods.proofs.Loop.{from, loop-start, loop-stop, loop-skip, loop-full, loop-on}
 use borrow.Author.Needs.{needs}
@@ -16,13 +15,14 @@ use Rattle.periods.proofs.table.by_letter.Tie as tie
 abbrev Inv-loop : tie.InvT-loop
 Inv-loop links₀ contexts₀ chains₀ room n rows by count₀ q₀ rest₀ links contexts chains count q rest =
     Rest (by .successors) q rest
-    × Going (covers rows) room (offer (covers rows) room (held n links₀ contexts₀) (gather 0 16 (atState by))) (from (covers rows) room (atState by) 16 q)
+    × Going (covers rows) room (offer (covers rows) room (held n links₀ contexts₀) (atLetter by)) (from (covers rows) room (atState by) 16 q)
     links₀ links contexts₀ contexts chains₀ chains count
 
 abbrev μ-loop : tie.MeasureT-loop
 μ-loop links₀ contexts₀ chains₀ room n rows by count₀ q₀ rest₀ links contexts chains count q rest = rest
 
 loop-holds : tie.Need-loop-holds Inv-loop μ-loop
+unfolding atLetter
 loop-holds c = (rest-start _ (omega arith), loop-start _ _ _ _ (c .before .before .before .pre .1))
 
 add-q : tie.Need-add-q Inv-loop μ-loop

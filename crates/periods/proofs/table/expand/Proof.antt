@@ -1,5 +1,5 @@
 -- `table::expand` meets its contract. The loop's invariant: what the letters from x on give is what all give. Assumes nothing.
-use mathlib.Core.Path.{refl, _∙_}
+use mathlib.Core.Path.{refl, ap, _∙_}
 use Prim.Native.Nat.{_-_, _≤_}
 use native.Mathlib.Omega.{arith}
 use Rattle.automata.specs.Loaded.{cell, autOf, stepsOf, ofPairs}
@@ -7,10 +7,11 @@ use Rattle.growth.specs.Grow.{offer}
 use Rattle.covering.specs.Entries.{held}
 use Rattle.covering.specs.Masks.{covers}
 use Rattle.periods.proofs.Going.{Going}
-use Rattle.periods.specs.Candidates.{atLetter}
+use Rattle.periods.specs.declared.table.Move.{Move}
+use Rattle.periods.specs.Candidates.{moveOf, atLetter}
 use Rattle.periods.specs.Periods.{wordNext}
 use Rattle.periods.proofs.Loop.{from, loop-start, loop-end, loop-skip, loop-full, loop-on}
-use Rattle.periods.proofs.Candidates.{letters-all, letter-none}
+use Rattle.periods.proofs.Candidates.{byLetter, letters-all, letter-none}
 use borrow.Author.Needs.{needs}
 use Rattle.periods.proofs.table.expand.Statement.{statement}
 use Rattle.periods.proofs.table.expand.Tie as tie
@@ -18,7 +19,7 @@ use Rattle.periods.proofs.table.expand.Tie as tie
 abbrev Inv-loop : tie.InvT-loop
 Inv-loop links₀ contexts₀ chains₀ room n rows model rule head word count₀ x₀ links contexts chains count x =
     (x ≤ 16)
-    × Going (covers rows) room (offer (covers rows) room (held n links₀ contexts₀) (wordNext (stepsOf model) (autOf (cell rule) head) (word .state) (word .parent) (ofPairs (word .context)))) (from (covers rows) room (atLetter model (autOf (cell rule) head) (word .state) (word .parent) (ofPairs (word .context))) 16 x)
+    × Going (covers rows) room (offer (covers rows) room (held n links₀ contexts₀) (wordNext (stepsOf model) (autOf (cell rule) head) (word .state) (word .parent) (ofPairs (word .context)))) (from (covers rows) room (byLetter model (autOf (cell rule) head) word) 16 x)
     links₀ links contexts₀ contexts chains₀ chains count
 
 abbrev μ-loop : tie.MeasureT-loop
@@ -27,7 +28,7 @@ abbrev μ-loop : tie.MeasureT-loop
 loop-holds : tie.Need-loop-holds Inv-loop μ-loop
 loop-holds c =
     let args = c .before .before .before .args in
-    (search needs, rw (letters-all (args .model .now) (autOf (cell (args .rule .now)) (args .head)) (args .word .state) (args .word .parent) (ofPairs (args .word .context))) (loop-start _ _ _ _ (c .before .before .before .pre .1)))
+    (search needs, rw (letters-all (args .model .now) (autOf (cell (args .rule .now)) (args .head)) (args .word)) (loop-start _ _ _ _ (c .before .before .before .pre .1)))
 
 cast-if1 : tie.Need-cast-if1 Inv-loop μ-loop
 cast-if1 c = search needs
@@ -54,13 +55,14 @@ loop-less : tie.Need-loop-less Inv-loop μ-loop
 loop-less c = search needs
 
 loop-again : tie.Need-loop-again Inv-loop μ-loop
-loop-again c = (search needs, loop-skip _ _ _ _ _ (c .before .before .before .before .loop .inv .1) (omega arith) refl (letter-none _ _ _ _ _ _ (c .if1 .taken)))
+loop-again c = (search needs, loop-skip _ _ _ _ _ (c .before .before .before .before .loop .inv .1) (omega arith) refl (letter-none _ _ _ _ (c .if1 .taken)))
 
 step-requires : tie.Need-step-requires Inv-loop μ-loop
 step-requires c κs = search needs
 
 by-letter-requires : tie.Need-by-letter-requires Inv-loop μ-loop
-by-letter-requires c κs = search needs
+unfolding moveOf
+by-letter-requires c κs = (omega (arith, ap (λ (by : Move). by .letter) (c .before .before .before .step .ensures)), search needs)
 
 enum-known-more : tie.Need-enum-known-more Inv-loop μ-loop
 enum-known-more c = search needs
@@ -78,7 +80,8 @@ same-length-3 : tie.Need-same-length-3 Inv-loop μ-loop
 same-length-3 c = c .before .before .before .before .before .before .before .before .by-letter .kept .1 .1 .0 ∙ c .before .before .before .before .before .before .before .before .before .before .before .before .before .before .before .before .before .loop .inv .1 .chains-long
 
 returns : tie.Need-returns Inv-loop μ-loop
-returns c = loop-full _ _ _ _ _ (c .before .before .before .before .before .before .before .before .before .before .before .before .before .before .before .before .before .loop .inv .1) (omega arith) (c .before .before .before .before .before .before .before .before .before .before .before .before .step .ensures .1) (c .enum-told .given .1) (c .before .before .before .before .before .before .before .before .by-letter .ensures)
+unfolding byLetter
+returns c = loop-full _ _ _ _ _ (c .before .before .before .before .before .before .before .before .before .before .before .before .before .before .before .before .before .loop .inv .1) (omega arith) (ap atLetter (c .before .before .before .before .before .before .before .before .before .before .before .before .step .ensures)) (c .enum-told .given .1) (c .before .before .before .before .before .before .before .before .by-letter .ensures)
 
 add-x-2 : tie.Need-add-x-2 Inv-loop μ-loop
 add-x-2 c = search needs
@@ -87,10 +90,11 @@ loop-less-2 : tie.Need-loop-less-2 Inv-loop μ-loop
 loop-less-2 c = search needs
 
 loop-again-2 : tie.Need-loop-again-2 Inv-loop μ-loop
+unfolding byLetter
 loop-again-2 c =
     let called = c .before .before .before .before .before .before .before .before .before .by-letter in (
       search needs,
-      loop-on _ _ _ _ _ (c .before .before .before .before .before .before .before .before .before .before .before .before .before .before .before .before .before .before .loop .inv .1) (omega arith) (c .before .before .before .before .before .before .before .before .before .before .before .before .before .step .ensures .1) (c .before .more .given .1) (called .ensures) (called .kept .0) (called .kept .1 .0) (called .kept .1 .1 .0),
+      loop-on _ _ _ _ _ (c .before .before .before .before .before .before .before .before .before .before .before .before .before .before .before .before .before .before .loop .inv .1) (omega arith) (ap atLetter (c .before .before .before .before .before .before .before .before .before .before .before .before .before .step .ensures)) (c .before .more .given .1) (called .ensures) (called .kept .0) (called .kept .1 .0) (called .kept .1 .1 .0),
     )
 
 same-length-4 : tie.Need-same-length-4 Inv-loop μ-loop

@@ -1,5 +1,5 @@
--- `table::step` meets its contract: the move's candidates are those of the letter. Assumes nothing.
-use Rattle.periods.proofs.Candidates.{move-letter}
+-- `table::step` meets its contract. Assumes nothing.
+use Rattle.periods.proofs.Candidates.{move-is}
 use borrow.Author.Needs.{needs}
 use Rattle.periods.proofs.table.step.Statement.{statement}
 use Rattle.periods.proofs.table.step.Tie as tie
@@ -23,7 +23,7 @@ longer-requires : tie.Need-longer-requires
 longer-requires c κs = search needs
 
 returns : tie.Need-returns
-returns c = (search needs, move-letter _ _ _ _ _ _ (c .longer .ensures))
+returns c = move-is _ _ _ _ (c .longer .ensures)
 
 pub step-spec : {M : Type 1} → statement M
 step-spec =
