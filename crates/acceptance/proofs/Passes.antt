@@ -44,17 +44,17 @@ module _ (n : ℕ) (B : Aut) (s t x : ℕ) where
   unfolding throughBy passesBy crosses
   through-has p q l m e h = bit-setOf (passesBy n B s t x) n q m ∙ any-intro (λ p. crosses q p && B .step p x q) n p l (and-both (crosses q p) (B .step p x q) e h)
 
-  pub through-before : (p q : ℕ) → p < n → q < n → bit t p ≡ true → B .step p x q ≡ true → bit (throughBy n B s t x) q ≡ true
+  through-before : (p q : ℕ) → p < n → q < n → bit t p ≡ true → B .step p x q ≡ true → bit (throughBy n B s t x) q ≡ true
   unfolding crosses
   through-before p q l m e h = through-has p q l m (or-left (bit t p) (bit s p && (B .final q || B .mark p x q)) e) h
 
-  pub through-now : (p q : ℕ) → p < n → q < n → bit s p ≡ true → (B .final q || B .mark p x q) ≡ true → B .step p x q ≡ true
+  through-now : (p q : ℕ) → p < n → q < n → bit s p ≡ true → (B .final q || B .mark p x q) ≡ true → B .step p x q ≡ true
       → bit (throughBy n B s t x) q ≡ true
   unfolding crosses
   through-now p q l m e a h =
       through-has p q l m (or-right (bit t p) (bit s p && (B .final q || B .mark p x q)) (and-both (bit s p) (B .final q || B .mark p x q) e a)) h
 
-  pub has-through : (q : ℕ) → q < n → bit (throughBy n B s t x) q ≡ true
+  has-through : (q : ℕ) → q < n → bit (throughBy n B s t x) q ≡ true
       → (p : ℕ) × (p < n) × (B .step p x q ≡ true) × ((bit t p ≡ true) ⊎ ((bit s p ≡ true) × ((B .final q || B .mark p x q) ≡ true)))
   unfolding throughBy passesBy crosses
   has-through q m e =

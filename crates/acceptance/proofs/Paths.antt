@@ -12,7 +12,7 @@ use Rattle.acceptance.specs.Lasso.{Word, power, Aut, Reach, here, move, 
 
 -- ---- repeated words
 
-pub power-one : (v : Word) → power v 1 ≡ v
+power-one : (v : Word) → power v 1 ≡ v
 power-one v = append-nil v
 
 pub power-add : (v : Word) (i j : ℕ) → power v (i + j) ≡ power v i ++ power v j
@@ -121,7 +121,7 @@ module _ {A : Aut} where
   pub period-reach : {s r : ℕ} {v : Word} → Period A s v r → Reach A s v r
   period-reach (starts g o h) = move g h
 
-  pub period-through : {s r : ℕ} {v : Word} → Period A s v r → Through A s v r
+  period-through : {s r : ℕ} {v : Word} → Period A s v r → Through A s v r
   unfolding opens
   period-through {s} (starts {x = x} {q = q} g o h) = ⊎-elim (λ f. accepting f (move g h)) (λ m. marked g m h) (or-cases (A .final s) (A .mark s x q) o)
 

@@ -34,7 +34,7 @@ module _ (n : ℕ) (c : Context) where
   unfolding repeated repeatedBy leadingInto paths
   repeated-bit q h = bit-setOf (λ q. meets n (row n paths q) (turning n paths (c .through))) n q h
 
-  pub repeated-loops : (q : ℕ) → q < n → (bit (repeated n c) q ≡ true) ↔ Loops n (row n (c .reach)) (row n (c .through)) q
+  repeated-loops : (q : ℕ) → q < n → (bit (repeated n c) q ≡ true) ↔ Loops n (row n (c .reach)) (row n (c .through)) q
   unfolding paths turns
   repeated-loops q h = (
     λ e.
@@ -63,7 +63,7 @@ module _ (n : ℕ) (c : Context) where
   )
 
 -- x has the states that the stem leads to, c describes the period
-pub accepted-from : {n x : ℕ} {B : Aut} {c : Context} {u v : Word} → Describes n B c v → SetIs n x (Reach B (B .start) u)
+accepted-from : {n x : ℕ} {B : Aut} {c : Context} {u v : Word} → Describes n B c v → SetIs n x (Reach B (B .start) u)
     → (meets n x (repeated n c) ≡ true) ↔ Accepted B u v
 accepted-from {n} {x} {B} {c} d stems = (
   λ e.

@@ -25,7 +25,7 @@ module _ (n : ℕ) where
     unfolding listed
     row-listed = row-pairs n (λ q. getD rows q 0) q (λ q h. small q) h
 
-    pub pair-listed : (p : ℕ) → p < n → pair n (listed n rows) q p ≡ bit (getD rows q 0) p
+    pair-listed : (p : ℕ) → p < n → pair n (listed n rows) q p ≡ bit (getD rows q 0) p
     pair-listed p l = sym (bit-row n (listed n rows) q p l) ∙ ap (λ (x : ℕ). bit x p) row-listed
 
     -- `row | z`

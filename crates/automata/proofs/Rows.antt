@@ -40,12 +40,12 @@ module _ (n : ℕ) where
   row-and c d q = rw row-weight (ap (λ (x : ℕ). x % 2 ^ n) (and-shr c d (n * q)) ∙ and-mod (c / 2 ^ (n * q)) (d / 2 ^ (n * q)) n)
 
   -- a number of n * n bits has its rows
-  pub pairs-rows : (c : ℕ) → c < 2 ^ (n * n) → c ≡ pairs n (row n c)
+  pairs-rows : (c : ℕ) → c < 2 ^ (n * n) → c ≡ pairs n (row n c)
   pairs-rows c l = pairs-is n (row n c) c l (λ q h. refl)
 
   -- `|` and `&`
   module _ (f g : ℕ → ℕ) (small : (q : ℕ) → q < n → f q < 2 ^ n) (small′ : (q : ℕ) → q < n → g q < 2 ^ n) where
-    pub or-pairs : bitOr (pairs n f) (pairs n g) ≡ pairs n (λ q. bitOr (f q) (g q))
+    or-pairs : bitOr (pairs n f) (pairs n g) ≡ pairs n (λ q. bitOr (f q) (g q))
     or-pairs =
         pairs-is n (λ q. bitOr (f q) (g q)) (bitOr (pairs n f) (pairs n g))
         (or-lt (n * n) (pairs n f) (pairs n g) (pairs-lt n f small) (pairs-lt n g small′))
@@ -64,7 +64,7 @@ module _ (n : ℕ) where
         ap (λ (x : ℕ). bitOr x (pairs n g)) (pairs-rows r fits) ∙ or-pairs (row n r) g (λ q h. row-lt n r q) small
         ∙ pairs-cong n (λ q. bitOr (row n r q) (g q)) (λ q. union n (row n r q) (g q)) (λ q h. union-or n (row n r q) (g q) (row-lt n r q) (small q h))
 
-    pub and-rows : bitAnd r (pairs n g) ≡ pairs n (λ q. meet n (row n r q) (g q))
+    and-rows : bitAnd r (pairs n g) ≡ pairs n (λ q. meet n (row n r q) (g q))
     and-rows =
         ap (λ (x : ℕ). bitAnd x (pairs n g)) (pairs-rows r fits) ∙ and-pairs (row n r) g (λ q h. row-lt n r q) small
         ∙ pairs-cong n (λ q. bitAnd (row n r q) (g q)) (λ q. meet n (row n r q) (g q)) (λ q h. meet-and n (row n r q) (g q) (row-lt n r q))

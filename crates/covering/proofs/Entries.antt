@@ -26,7 +26,7 @@ contexts-append [] t = refl
 contexts-append (e ∷ s) t = ap (λ (l : List ℕ). e .context .reach ∷ e .context .through ∷ l) (contexts-append s t)
 
 -- the context of entry i is at 2i and 2i + 1
-pub contexts-at : (es : List Period) (i : ℕ) (d : Period) → i < length es → contextIn (contextsOf es) i ≡ getD es i d .context
+contexts-at : (es : List Period) (i : ℕ) (d : Period) → i < length es → contextIn (contextsOf es) i ≡ getD es i d .context
 unfolding contextsOf
 contexts-at [] i d h = absurd (omega arith)
 contexts-at (e ∷ es) zero d h = refl

@@ -21,7 +21,7 @@ pub member-at : (n s q : ℕ) → q < n → bit s q ≡ true → (i : ℕ) × At
 unfolding members
 member-at n s q l t = mem-at (mem-gather 0 n (λ q. only (bit s q) q) q (omega arith) (omega arith) (mem-only (bit s q) q t))
 
-pub member-has : (n s : ℕ) {i q : ℕ} → At (members n s) i q → (q < n) × (bit s q ≡ true)
+member-has : (n s : ℕ) {i q : ℕ} → At (members n s) i q → (q < n) × (bit s q ≡ true)
 unfolding members
 member-has n s a =
     let (m, _, l, o) = gather-mem 0 n (λ q. only (bit s q) q) (at-mem a) in

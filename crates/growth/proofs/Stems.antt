@@ -63,7 +63,7 @@ module _ {n b : ℕ} {B : Aut} (small : Small n B) (by : Numbered b B) where
       bit-ext n (target n B v) (target n B w) (target-lt small v) (target-lt small w) (λ q l.
       bool-same (bit (target n B v) q) (bit (target n B w) q) (shared v w q l e) (shared w v q l (sym e)))
 
-  pub targets-counted : {test : ℕ → ℕ → Bool} → ((c : ℕ) → test c c ≡ true) → Counted (Targeted n B) test (2 ^ b)
+  targets-counted : {test : ℕ → ℕ → Bool} → ((c : ℕ) → test c c ≡ true) → Counted (Targeted n B) test (2 ^ b)
   unfolding places
   targets-counted {test} self = record {
     number = places;

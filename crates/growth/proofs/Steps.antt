@@ -58,7 +58,7 @@ module _ {E : Type 0} where
 -- ---- the same and mapped
 
 module _ {E : Type 0} where
-  pub gather-same : (i k : ℕ) (f g : ℕ → List E) → ((j : ℕ) → f j ≡ g j) → gather i k f ≡ gather i k g
+  gather-same : (i k : ℕ) (f g : ℕ → List E) → ((j : ℕ) → f j ≡ g j) → gather i k f ≡ gather i k g
   unfolding gather
   gather-same i zero f g h = refl
   gather-same i (suc k) f g h = ap₂ _++_ (h i) (gather-same (suc i) k f g h)

@@ -3,7 +3,7 @@
 use mathlib.Core.Bool.{Bool, true, false}
 use mathlib.Core.List.{List}
 use mathlib.Core.Path.{_≡_, refl, sym, subst}
-use Prim.Native.Nat.{ℕ, _≤_}
+use Prim.Native.Nat.{ℕ}
 use native.Mathlib.Omega.{arith}
 use Rattle.acceptance.specs.Contexts.{Small}
 use Rattle.acceptance.proofs.Targets.{small-more}
@@ -24,12 +24,12 @@ use Rattle.inclusion.specs.Decided.{statesOf, Made}
 -- ---- a good file
 
 -- its automaton, by the number of its states
-pub states-small : (n : ℕ) (s : List ℕ) {h : Head} → n ≤ 16 → judged n s ≡ Good h → Small (statesOf s) (spelled s)
+states-small : (n : ℕ) (s : List ℕ) {h : Head} → judged n s ≡ Good h → Small (statesOf s) (spelled s)
 unfolding headOf
-states-small n s {h} few e = subst (λ (h : Head). Small (h .states) (spelled s)) (good-file n s e .head-is) (spelled-small n s few e .small)
+states-small n s {h} e = subst (λ (h : Head). Small (h .states) (spelled s)) (good-file n s e .head-is) (spelled-small n s e .small)
 
-pub within-limit : (n : ℕ) (s : List ℕ) {h : Head} → n ≤ 16 → judged n s ≡ Good h → Small n (spelled s)
-within-limit n s few e = let limits = spelled-small n s few e in small-more (limits .states-within) (limits .small)
+within-limit : (n : ℕ) (s : List ℕ) {h : Head} → judged n s ≡ Good h → Small n (spelled s)
+within-limit n s e = let limits = spelled-small n s e in small-more (limits .states-within) (limits .small)
 
 -- ---- the walk is made
 
@@ -54,13 +54,13 @@ module _ {model rule : List ℕ} {S P : ℕ} {lent : Buffers} where
   -- both automata are as the walk wants them
   module _ {a b : Head} (r : Ready model rule S P lent a b) where
     pub model-bounded : Bounded 16 16 (spelled model)
-    model-bounded = record { small = within-limit 16 model (omega arith) (r .model-good); letter-bound = spelled-small 16 model (omega arith) (r .model-good) .letter-within }
+    model-bounded = record { small = within-limit 16 model (r .model-good); letter-bound = spelled-small 16 model (r .model-good) .letter-within }
 
     pub rule-small : Small 8 (spelled rule)
-    rule-small = within-limit 8 rule (omega arith) (r .rule-good)
+    rule-small = within-limit 8 rule (r .rule-good)
 
     pub model-numbered : Numbered (statesOf model) (spelled model)
-    model-numbered = numbered (states-small 16 model (omega arith) (r .model-good))
+    model-numbered = numbered (states-small 16 model (r .model-good))
 
     pub rule-numbered : Numbered (statesOf rule) (spelled rule)
-    rule-numbered = numbered (states-small 8 rule (omega arith) (r .rule-good))
+    rule-numbered = numbered (states-small 8 rule (r .rule-good))

@@ -42,15 +42,15 @@ module _ (s : ℕ) (links contexts : List ℕ) where
 -- ---- the tests
 
 module _ (test : ℕ → ℕ → Bool) where
-  pub search-none : (t : ℕ) → search test [] t ≡ passed t
+  search-none : (t : ℕ) → search test [] t ≡ passed t
   unfolding search
   search-none t = refl
 
-  pub search-pass : (i j : ℕ) (cs : List (ℕ × ℕ)) (t : ℕ) → test i j ≡ true → search test ((i, j) ∷ cs) t ≡ search test cs (t + 1)
+  search-pass : (i j : ℕ) (cs : List (ℕ × ℕ)) (t : ℕ) → test i j ≡ true → search test ((i, j) ∷ cs) t ≡ search test cs (t + 1)
   unfolding search
   search-pass i j cs t h = rw (h, search, add-one)
 
-  pub search-fail : (i j : ℕ) (cs : List (ℕ × ℕ)) (t : ℕ) → test i j ≡ false → search test ((i, j) ∷ cs) t ≡ rejected (t + 1) i j
+  search-fail : (i j : ℕ) (cs : List (ℕ × ℕ)) (t : ℕ) → test i j ≡ false → search test ((i, j) ∷ cs) t ≡ rejected (t + 1) i j
   unfolding search
   search-fail i j cs t h = rw (h, search, add-one)
 
@@ -73,28 +73,28 @@ module _ (u : List ℕ) (s rows : ℕ) (links : List ℕ) where
   unfoldable pub pairsOn : ℕ → ℕ → List (ℕ × ℕ)
   pairsOn i j = gather j (length links - j) (pairAt i) ++ pairsFrom (i + 1)
 
-  pub from-all : pairsOf u s rows links ≡ pairsFrom 0
+  from-all : pairsOf u s rows links ≡ pairsFrom 0
   unfolding pairsOf steps pairsFrom pairsAt pairAt
   from-all = gather-all pairsAt (length u)
 
-  pub from-none : (i : ℕ) → length u ≤ i → pairsFrom i ≡ []
+  from-none : (i : ℕ) → length u ≤ i → pairsFrom i ≡ []
   unfolding pairsFrom
   from-none i l = gather-over pairsAt (length u) i l
 
-  pub from-stem : (i : ℕ) → i < length u → pairsFrom i ≡ pairsOn i 0
+  from-stem : (i : ℕ) → i < length u → pairsFrom i ≡ pairsOn i 0
   unfolding pairsFrom pairsOn pairsAt
   from-stem i l = gather-next pairsAt (length u) i l
       ∙ ap (λ (cs : List (ℕ × ℕ)). cs ++ gather (i + 1) (length u - (i + 1)) pairsAt) (gather-all (pairAt i) (length links))
 
-  pub from-past : (i : ℕ) → i < length u → fits s rows (getD u i 0) ≡ false → pairsFrom i ≡ pairsFrom (i + 1)
+  from-past : (i : ℕ) → i < length u → fits s rows (getD u i 0) ≡ false → pairsFrom i ≡ pairsFrom (i + 1)
   unfolding pairsFrom pairsAt pairAt
   from-past i l h = gather-past pairsAt (length u) i l (gather-nothing (pairAt i) 0 (length links) (λ j. rw h))
 
-  pub on-none : (i j : ℕ) → length links ≤ j → pairsOn i j ≡ pairsFrom (i + 1)
+  on-none : (i j : ℕ) → length links ≤ j → pairsOn i j ≡ pairsFrom (i + 1)
   unfolding pairsOn
   on-none i j l = ap (λ (cs : List (ℕ × ℕ)). cs ++ pairsFrom (i + 1)) (gather-over (pairAt i) (length links) j l)
 
-  pub on-past : (i j : ℕ) → j < length links → eqb (linkState (getD links j 0)) s ≡ false → pairsOn i j ≡ pairsOn i (j + 1)
+  on-past : (i j : ℕ) → j < length links → eqb (linkState (getD links j 0)) s ≡ false → pairsOn i j ≡ pairsOn i (j + 1)
   unfolding pairsOn pairAt
   on-past i j l h = ap (λ (cs : List (ℕ × ℕ)). cs ++ pairsFrom (i + 1)) (gather-past (pairAt i) (length links) j l (at (fits s rows (getD u i 0)) h))
     where
@@ -102,7 +102,7 @@ module _ (u : List ℕ) (s rows : ℕ) (links : List ℕ) where
       at true e = rw e
       at false e = refl
 
-  pub on-pair : (i j : ℕ) → j < length links → fits s rows (getD u i 0) ≡ true → eqb (linkState (getD links j 0)) s ≡ true → pairsOn i j ≡ (i, j) ∷ pairsOn i (j + 1)
+  on-pair : (i j : ℕ) → j < length links → fits s rows (getD u i 0) ≡ true → eqb (linkState (getD links j 0)) s ≡ true → pairsOn i j ≡ (i, j) ∷ pairsOn i (j + 1)
   unfolding pairsOn pairAt
   on-pair i j l f h =
       ap (λ (cs : List (ℕ × ℕ)). cs ++ pairsFrom (i + 1)) (gather-next (pairAt i) (length links) j l)

@@ -103,4 +103,4 @@ module _ (records : List ℕ) (u v : Word) where
       ∙ ap byFile (sym g ∙ e)
 
 pub start-small : (records : List ℕ) {head : Head} → judged 16 records ≡ Fine head → head .start < 16
-start-small records e = let limits = spelled-small 16 records (omega arith) e in omega arith
+start-small records e = let limits = spelled-small 16 records e in omega arith

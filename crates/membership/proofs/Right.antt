@@ -76,7 +76,7 @@ module _ {records : List ℕ} {u v : Word} where
 
 right : {records : List ℕ} {u v : Word} {r : Tested} → r ≡ tested records u v → Outcome records u v r → TestRight records u v r
 right {records} {u} {v} e (decided s) =
-    let limits = spelled-small 16 records (omega arith) (s .file) in
+    let limits = spelled-small 16 records (s .file) in
     let (accepts, rejects) = verdict-right (small-more (limits .states-within) (limits .small)) u v in
     record { answer = e; accepted = (λ e. (s, accepts .0 e), λ a. accepts .1 (a .1)); rejected = (λ e. (s, rejects .0 e), λ a. rejects .1 (a .1)) }
 right e (refused n) = record {

@@ -63,12 +63,12 @@ unfolding periodNext wordNext autOf
 heads-apart model head B = refl
 
 -- from an accepting state a period may start by every transition
-pub accepting-opens : (A : Aut) (s x q : ℕ) → A .final s ≡ true → opens A s x q ≡ true
+accepting-opens : (A : Aut) (s x q : ℕ) → A .final s ≡ true → opens A s x q ≡ true
 unfolding opens
 accepting-opens A s x q h = or-left (A .final s) (A .mark s x q) h
 
 -- so that the one-letter words are the candidates of the empty word, by each transition
-pub first-letters : (model : List (List ℕ)) (head : Head) (B : Aut) (s : ℕ) → bit (head .accepting) s ≡ true
+first-letters : (model : List (List ℕ)) (head : Head) (B : Aut) (s : ℕ) → bit (head .accepting) s ≡ true
     → wordNext (stepsOf model) B s 65535 (idle 8 (B .final)) ≡ periodFirst (autOf (cell model) head) B s
 unfolding periodFirst wordNext autOf
 first-letters model head B s h =
@@ -78,7 +78,7 @@ first-letters model head B s h =
     (λ x q. ap (λ (b : Bool). A .step s x q && b) (accepting-opens A s x q h) ∙ and-true (A .step s x q)))
 
 -- the accepting states below 8 are those of the low byte
-pub idle-low : (a : ℕ) → idle 8 (bit (a % 256)) ≡ idle 8 (bit a)
+idle-low : (a : ℕ) → idle 8 (bit (a % 256)) ≡ idle 8 (bit a)
 unfolding idle
 idle-low a =
     ap (λ (y : ℕ). record { reach = pairs 8 (λ q. 2 ^ q); through = y })

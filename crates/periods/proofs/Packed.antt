@@ -69,7 +69,7 @@ module _ (A B : Aut) (s rows room : ℕ) where
   unfolding periodFirst oneLetter child seed
   first-packed = map-steps periodPacked 16 16 (λ x q. A .step s x q && opens A s x q) (child (longer 8 B) 65535 (seed (idle 8 (B .final)) s))
 
-  pub period-packed : periodTable A B s rows room ≡ mapped periodPacked (periodWords A B s rows room)
+  period-packed : periodTable A B s rows room ≡ mapped periodPacked (periodWords A B s rows room)
   unfolding periodTable periodCovers wordNext periodNext periodNodes pack
   period-packed = ap (table (periodCovers rows) (periodNext A B) room) (sym first-packed)
       ∙ packed-table pack stateOf contextOf A (longer 8 B) (λ c x h. tt) period-read fits-first (contained 8 rows) room
@@ -106,7 +106,7 @@ module _ (A B : Aut) (s rows room : ℕ) where
     period-below = rw (period-entries, length-map (periodEntries A B s rows room) periodPacked) (at-below a)
 
     -- as `getD` finds them among the links and among the contexts
-    pub link-at : linkAt (packedPeriods A B s rows room) j ≡ periodLink (e .state) (e .letter) (e .parent)
+    link-at : linkAt (packedPeriods A B s rows room) j ≡ periodLink (e .state) (e .letter) (e .parent)
     link-at = rw period-entries (at-getD 0 (at-map (λ (p : Period). p .link) (at-map periodPacked a)))
 
     pub context-at : (none : Context) → getD (map (λ (p : Period). p .context) (packedPeriods A B s rows room)) j none ≡ e .load

@@ -17,7 +17,7 @@ use Rattle.adding.specs.Steps.{cellWith}
 use Rattle.records.proofs.Table.{row, row-at, cell-at}
 
 -- one more member
-pub setOf-more : (f g : ℕ → Bool) (n q : ℕ) → ((j : ℕ) → g j ≡ (f j || eqb q j)) → union n (setOf f n) (2 ^ q) ≡ setOf g n
+setOf-more : (f g : ℕ → Bool) (n q : ℕ) → ((j : ℕ) → g j ≡ (f j || eqb q j)) → union n (setOf f n) (2 ^ q) ≡ setOf g n
 unfolding union
 setOf-more f g n q more =
     setOf-cong (λ j. bit (setOf f n) j || bit (2 ^ q) j) g n (λ j h. ap₂ _||_ (bit-setOf f n j h) (bit-power q j) ∙ sym (more j))

@@ -2,17 +2,15 @@
 use mathlib.Core.Bool.{Bool, true, false, _&&_, cond, false≢true}
 use mathlib.Core.List.{List}
 use mathlib.Core.Logic.{⊎-elim}
-use mathlib.Core.Path.{_≡_, refl, sym, ap, subst, subst⁻¹, _∙_}
-use Prim.Native.Nat.{ℕ, zero, suc, max, _^_, _<_, _≤_}
-use native.Mathlib.Nat.{eq-or-lt-of-le, le-of-suc-le-suc, lt-of-lt-of-le, pow-le-pow-right}
+use mathlib.Core.Path.{_≡_, refl, sym, ap, subst⁻¹, _∙_}
+use Prim.Native.Nat.{ℕ, zero, suc, max, _<_, _≤_}
+use native.Mathlib.Nat.{eq-or-lt-of-le, le-of-suc-le-suc}
 use native.Mathlib.Omega.{arith}
-use lib.Dec.{eqb, lit<}
+use lib.Dec.{eqb}
 use borrow.Author.Tests.{eqb-true}
-use Rattle.bits.specs.Bits.{setOf, any}
-use Rattle.bits.proofs.Bits.{bit-setOf, bit-above, bit-ext, setOf-lt}
-use Rattle.bits.proofs.Digits.{lt-or-ge}
+use Rattle.bits.specs.Bits.{any}
 use Rattle.bits.proofs.Quantifiers.{any-elim}
-use Rattle.bits.proofs.Truth.{and-left, and-right, or-cases, false-from}
+use Rattle.bits.proofs.Truth.{and-left, and-right, or-cases}
 use Rattle.acceptance.specs.Contexts.{Small}
 use Rattle.automata.specs.declared.Head.{Head}
 use Rattle.records.specs.declared.Checked.the-variants.{Good}
@@ -113,27 +111,14 @@ module _ (states : ℕ) (s : List ℕ) where
 pub record Limits (states : ℕ) (s : List ℕ) (h : Head) : Type 0 where
   pub states-within : h .states ≤ states
   pub start-within : h .start < h .states
-  pub accepting-within : h .accepting < 2 ^ states
   pub source-within : (p x q : ℕ) → spelled s .step p x q ≡ true → p < h .states
   pub letter-within : (p x q : ℕ) → spelled s .step p x q ≡ true → x < 16
   pub final-within : (q : ℕ) → spelled s .final q ≡ true → q < h .states
   pub small : Small (h .states) (spelled s)
 
--- a set whose members are below n
-setOf-below : (f : ℕ → Bool) (m n : ℕ) → n ≤ m → ((j : ℕ) → f j ≡ true → j < n) → setOf f m < 2 ^ n
-setOf-below f m n h below =
-    subst (λ (x : ℕ). x < 2 ^ n)
-    (bit-ext m (setOf f n) (setOf f m) (lt-of-lt-of-le (setOf-lt f n) (pow-le-pow-right (lit< tt) h)) (setOf-lt f m)
-    (λ j l. ⊎-elim
-    (λ k. bit-setOf f n j k)
-    (λ k. bit-above (setOf f n) n j (setOf-lt f n) k ∙ sym (false-from (f j) (λ e. let b = below j e in omega arith)))
-    (lt-or-ge j n)
-    ∙ sym (bit-setOf f m j l)))
-    (setOf-lt f n)
-
-pub spelled-small : (states : ℕ) (s : List ℕ) {h : Head} → states ≤ 16 → judged states s ≡ Good h → Limits states s h
+pub spelled-small : (states : ℕ) (s : List ℕ) {h : Head} → judged states s ≡ Good h → Limits states s h
 unfolding headOf spelled acceptingIn
-spelled-small states s {h} few e =
+spelled-small states s {h} e =
     let file = good-file states s e in
     let n = count s in
     let below = states-below states s n (file .clean) in
@@ -144,7 +129,6 @@ spelled-small states s {h} few e =
     (record {
       states-within = below;
       start-within = start-named s n (file .begins);
-      accepting-within = setOf-below (λ q. among s n kindF q 0 0) 16 states few (λ q f. let b = final q f in omega arith);
       source-within = λ p x q f. let w = there s n kindT p x q f in omega (arith, first-named s (w .at), named-within s n (w .at) (w .before), w .first-is);
       letter-within = λ p x q f. let w = there s n kindT p x q f in omega (arith, letter-below states s (w .at) (says states s (w .at)) (file .clean .good (w .at) (w .before)) (w .kind-is), w .second-is);
       final-within = final;

@@ -27,7 +27,7 @@ module _ (n : ℕ) (few : n ≤ 16) (s : List ℕ) {h : Head} (good : judged n s
     (f : ℕ → ℕ → ℕ) (fits : (x p : ℕ) → f x p < 2 ^ n)
     (same : (x p q : ℕ) → x < 16 → p < n → q < n → bit (f x p) q ≡ among s (count s) kindT p x q) where
   limits : Limits n s h
-  limits = spelled-small n s few good
+  limits = spelled-small n s good
 
   head-is : h ≡ headOf s
   head-is = good-file n s good .head-is

@@ -13,9 +13,9 @@ use Rattle.covering.specs.Entries.{Period}
 use Rattle.periods.specs.Periods.{periodTable}
 use Rattle.rounds.specs.declared.Rounds.{Rounds}
 use Rattle.rounds.specs.declared.Rounds.the-variants.{Through, Lacking, Found}
-use Rattle.walk.specs.Walk.{included, shown, stemsFull, periodsFull, Finish, Search, searchRound, run}
+use Rattle.walk.specs.Walk.{included, shown, stemsFull, periodsFull, Finish, searchRound, run}
 use Rattle.walk.proofs.Runs.{made, Ran, done, lacking, going, found, runs, run-is}
-use Rattle.walk.proofs.Bounds.{round-tests}
+use Rattle.walk.proofs.Bounds.{round-tests, ran-made}
 use Rattle.walk.proofs.Cut.{periods}
 use Rattle.rounds.specs.Finished.{finishOf, Finished}
 use Rattle.rounds.specs.Round.{Ready}
@@ -41,23 +41,17 @@ none-ran A B u room e p t = rw e (record { finish = run-is done; legible = throu
 -- ---- how many tests
 
 module _ (A B : Aut) (u : List ℕ) (room : ℕ) (few : length u ≤ 4096) (short : room ≤ 65535) where
-  round-few : (c : ℕ × ℕ) (v : List Period) (t : ℕ) {o : Search} → periodTable A B (c .0) (c .1) room ≡ ended v → searchRound u c v t ≡ o → made o ≤ t + 2 ^ 28
-  round-few c v t e s =
+  round-few : (c : ℕ × ℕ) (v : List Period) (t : ℕ) → periodTable A B (c .0) (c .1) room ≡ ended v → made (searchRound u c v t) ≤ t + 2 ^ 28
+  round-few c v t e =
       let low : length v ≤ room = rw e at (periods A B (c .0) (c .1) .within room) in
-      omega (arith, round-tests u c v t s room low, mul-le-mul few short)
-
-  ran-few : {cs : List (ℕ × ℕ)} {p t : ℕ} {o : Finish} → Ran A B u room cs p t o → o .tests ≤ t + length cs * 2 ^ 28
-  ran-few done = omega arith
-  ran-few (lacking v e) = omega arith
-  ran-few (going {c = c} {t = t} v e s r) = omega (arith, round-few c v t e s, ran-few r)
-  ran-few (found {c = c} {t = t} v e s) = omega (arith, round-few c v t e s)
+      omega (arith, round-tests u c v t room low, mul-le-mul few short)
 
   -- m rounds at most, none of which left the loop
   pub tests-more : (cs : List (ℕ × ℕ)) (p t m : ℕ) {r : Rounds} {q y : ℕ} {links : List ℕ} → Finished A B u room cs p t r links → r ≡ Through q y → length cs ≤ m
       → y ≤ t + m * 2 ^ 28
   tests-more cs p t m {q = q} {y = y} h e l =
       let end : run A B u room cs p t .tests ≡ y = ap (λ (f : Finish). f .tests) (rw e at (h .finish)) in
-      omega (arith, ran-few (runs A B u room cs p t))
+      omega (arith, ran-made (runs A B u room cs p t) (2 ^ 28) (λ c v t e l. round-few c v t e))
 
 -- ---- the loop
 

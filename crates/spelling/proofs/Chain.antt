@@ -23,11 +23,11 @@ module _ (links : Bool) (t : List ℕ) where
   abbrev pub Inside : ℕ → ℕ → Type 0
   Inside n i = (i ≡ topOf links) ⊎ (i < n)
 
-  pub inside-below : {n i : ℕ} → Inside n i → eqb i (topOf links) ≡ false → i < n
+  inside-below : {n i : ℕ} → Inside n i → eqb i (topOf links) ≡ false → i < n
   inside-below {i = i} (inl e) h = absurd (eqb-false i (topOf links) h e)
   inside-below (inr l) h = l
 
-  pub chain-length : (f i : ℕ) → length (chain links t f i) ≤ f
+  chain-length : (f i : ℕ) → length (chain links t f i) ≤ f
   unfolding chain
   chain-length zero i = omega arith
   chain-length (suc f) i = at (eqb i (topOf links)) (chain-length f (parentOf links (getD t i 0)))

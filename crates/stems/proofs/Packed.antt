@@ -76,7 +76,7 @@ module _ {A B : Aut} (bound : Bounded 16 16 A) (small : Small 8 B) (largest : Bo
   unfolding stemNodes
   stem-fits = fits-entries pack stemState stemTarget A (movedBy 8 B) (λ c x h. movedBy-lt 8 B c x) stem-read fits-root (targetCovers largest) room
 
-  pub stem-entries : packedStems A B largest room ≡ map stemPacked (stemEntries A B largest room)
+  stem-entries : packedStems A B largest room ≡ map stemPacked (stemEntries A B largest room)
   stem-entries = ap entries stem-packed ∙ mapped-entries stemPacked (stemWords A B largest room)
 
   -- one of them lacks room where the other does

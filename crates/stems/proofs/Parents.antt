@@ -30,7 +30,7 @@ module _ {A B : Aut} (bound : Bounded 16 16 A) (small : Small 8 B) (largest : Bo
 
   module _ {i : ℕ} {e : Node ℕ} (a : At (stemEntries A B largest room) i e) where
     -- the parent stands before its child; the root has parent 0
-    pub parent-low : e .parent ≤ i - 1
+    parent-low : e .parent ≤ i - 1
     unfolding seed
     parent-low = at (stem-linked a)
       where
@@ -50,7 +50,7 @@ module _ {A B : Aut} (bound : Bounded 16 16 A) (small : Small 8 B) (largest : Bo
         rw (stem-at bound small largest room a) (stem-parent (e .load) (e .state) (e .letter) (e .parent) (h .load-fits) (h .state-fits) (h .letter-fits) (parent-fits l))
 
   -- entry 0 is the root, and no other is
-  pub root-at : {e : Node ℕ} → At (stemEntries A B largest room) 0 e → e ≡ rootNode A B
+  root-at : {e : Node ℕ} → At (stemEntries A B largest room) 0 e → e ≡ rootNode A B
   root-at a = at (stem-linked a)
     where
       at : {e : Node ℕ} → Linked (rootNode A B ∷ []) (stemEntries A B largest room) 0 e → e ≡ rootNode A B

@@ -3,7 +3,7 @@
 use mathlib.Core.Path.{_≡_, refl, sym}
 use mathlib.Core.Bool.{true, false, _&&_}
 use mathlib.Core.List.{List, [], List·Memᴰ, List·Memᴰ·head, List·Memᴰ·tail}
-use Prim.Native.Nat.{ℕ, _+_, _*_, _^_, _≤_, max}
+use Prim.Native.Nat.{ℕ, _+_, _*_, _^_, _≤_}
 use native.Mathlib.Nat.{le-refl, le-trans, mul-le-mul, suc-mul, mul-assoc, mul-comm}
 use native.Mathlib.Omega.{arith}
 use borrow.Author.Tests.{eqb-true}
@@ -13,7 +13,7 @@ use Rattle.bits.specs.Fields.{stemState, stemTarget, linkState}
 use Rattle.bits.proofs.Truth.{and-right}
 use Rattle.acceptance.specs.Lasso.{Aut}
 use Rattle.acceptance.specs.Contexts.{Small}
-use Rattle.growth.specs.Grow.{Complete}
+use Rattle.growth.specs.Grow.{ended, Complete}
 use Rattle.growth.specs.Numbered.{Bounded, Numbered}
 use Rattle.growth.specs.Tables.{members}
 use Rattle.growth.specs.Steps.{steps}
@@ -22,7 +22,7 @@ use Rattle.stems.proofs.Packed.{stem-bound, stem-enough}
 use Rattle.covering.specs.Entries.{Period, linksOf, contextsOf}
 use Rattle.periods.specs.Periods.{periodTable}
 use Rattle.periods.proofs.Packed.{period-bound, period-bound-all, period-enough}
-use Rattle.walk.specs.Walk.{Finish, Walked, Search, fits, searchRound, opening, roundAt, roundsAt, rounds, pairsOf, accepts, walk}
+use Rattle.walk.specs.Walk.{Finish, Walked, fits, searchRound, opening, roundAt, roundsAt, rounds, pairsOf, accepts, walk}
 use Rattle.walk.proofs.Runs.{decided, made, searched, searched-made, Ran, done, lacking, going, found, Walks, u-full, w-full, ran, walks}
 use Rattle.walk.proofs.Rounds.{tableW, tableV, round-of, round-reached, round-rows}
 
@@ -36,13 +36,13 @@ pub record Bounds (a b : ℕ) (r : Walked) : Type 0 where
 -- ---- t ≤ u · w · p
 
 -- one round makes at most u · p tests
-pub round-tests : (u : List ℕ) (c : ℕ × ℕ) (v : List Period) (t : ℕ) {o : Search} → searchRound u c v t ≡ o → (p : ℕ) → length v ≤ p → made o ≤ t + length u * p
+pub round-tests : (u : List ℕ) (c : ℕ × ℕ) (v : List Period) (t p : ℕ) → length v ≤ p → made (searchRound u c v t) ≤ t + length u * p
 unfolding pairsOf
-round-tests u c v t e p l =
+round-tests u c v t p l =
     let low : length (linksOf v) ≤ p = omega (arith, length-map v (λ (q : Period). q .link)) in
     omega (
       arith,
-      searched-made _ (searched (accepts u (contextsOf v)) (pairsOf u (c .0) (c .1) (linksOf v)) t e),
+      searched-made _ (searched (accepts u (contextsOf v)) (pairsOf u (c .0) (c .1) (linksOf v)) t refl),
       steps-length {E = ℕ × ℕ} (length u) (length (linksOf v)) (λ i j. fits (c .0) (c .1) (getD u i 0) && eqb (linkState (getD (linksOf v) j 0)) (c .0)) (λ i j. (i, j)),
       mul-le-mul (le-refl (length u)) low,
     )
@@ -54,13 +54,17 @@ module _ {A B : Aut} {u : List ℕ} where
   ran-periods (going v e s r) = omega (arith, ran-periods r)
   ran-periods (found v e s) = omega arith
 
+  -- rounds of at most m tests each
+  pub ran-made : {room : ℕ} {cs : List (ℕ × ℕ)} {p t : ℕ} {o : Finish} → Ran A B u room cs p t o → (m : ℕ)
+      → ((c : ℕ × ℕ) (v : List Period) (t : ℕ) → periodTable A B (c .0) (c .1) room ≡ ended v → length v ≤ o .periods → made (searchRound u c v t) ≤ t + m)
+      → o .tests ≤ t + length cs * m
+  ran-made done m h = omega arith
+  ran-made (lacking v e) m h = omega arith
+  ran-made (going {c = c} {cs = cs} {t = t} v e s r) m h = omega (arith, ran-made r m h, rw s at (h c v t e (omega (arith, ran-periods r))), suc-mul (length cs) m)
+  ran-made (found {c = c} {cs = cs} {t = t} v e s) m h = omega (arith, rw s at (h c v t e (omega arith)), suc-mul (length cs) m)
+
   ran-tests : {room : ℕ} {cs : List (ℕ × ℕ)} {p t : ℕ} {o : Finish} → Ran A B u room cs p t o → o .tests ≤ t + length cs * (length u * o .periods)
-  ran-tests done = omega arith
-  ran-tests (lacking v e) = omega arith
-  ran-tests (going {c = c} {cs = cs} {t = t} {o = o} v e s r) =
-      omega (arith, ran-tests r, round-tests u c v t s (o .periods) (omega (arith, ran-periods r)), suc-mul (length cs) (length u * o .periods))
-  ran-tests (found {c = c} {cs = cs} {p = p} {t = t} v e s) =
-      omega (arith, round-tests u c v t s (max p (length v)) (omega arith), suc-mul (length cs) (length u * max p (length v)))
+  ran-tests {o = o} r = ran-made r (length u * o .periods) (λ c v t e l. round-tests u c v t (o .periods) l)
 
 -- each entry of W is at one state
 rounds-length : (A B : Aut) (w : List ℕ) → length (rounds A B w) ≤ length w

@@ -63,7 +63,7 @@ module _ {A B : Aut} (bound : Bounded 16 16 A) (small : Small 8 B) (S : ℕ) whe
 
     -- the pair of an entry of U and one of the period table
     module _ {i j : ℕ} {d : Node ℕ} {e : Node Context} (a : At (stemEntries A B false S) i d) (b : At (periodEntries A B s rows P) j e) where
-      pub pair-mem : d .state ≡ s → subset 8 (d .load) rows ≡ true → e .state ≡ s → List·Memᴰ (i, j) (pairsOf (tableU A B S) s rows (linksOf (tableV A B P s rows)))
+      pair-mem : d .state ≡ s → subset 8 (d .load) rows ≡ true → e .state ≡ s → List·Memᴰ (i, j) (pairsOf (tableU A B S) s rows (linksOf (tableV A B P s rows)))
       unfolding pairsOf fits pairIs stemIs stemInside periodIs
       pair-mem p inside q =
           mem-steps (length (tableU A B S)) (length (linksOf (tableV A B P s rows))) pairIs (λ i j. (i, j)) i j (stems.stem-below bound small false S a)
@@ -72,7 +72,7 @@ module _ {A B : Aut} (bound : Bounded 16 16 A) (small : Small 8 B) (S : ℕ) whe
           (and-both (stemIs i) (stemInside i) (eq-eqb _ _ (stems.state-at bound small false S a ∙ p)) (rw (stems.target-at bound small false S a) inside))
           (eq-eqb _ _ (periods.state-at A B s rows P b ∙ q)))
 
-      pub accepts-is : accepts (tableU A B S) (contextsOf (tableV A B P s rows)) i j ≡ meets 8 (d .load) (repeated 8 (e .load))
+      accepts-is : accepts (tableU A B S) (contextsOf (tableV A B P s rows)) i j ≡ meets 8 (d .load) (repeated 8 (e .load))
       unfolding accepts
       accepts-is = rw (stems.target-at bound small false S a, context-held (tableV A B P s rows) j, periods.context-at A B s rows P b (record { reach = 0; through = 0 }))
 
