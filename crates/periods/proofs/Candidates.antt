@@ -1,7 +1,7 @@
 -- The candidates as the loops take them are those of the table, and comparing by masks gives the same table. Assumes nothing.
 use mathlib.Core.Path.{_≡_, refl, sym, ap, ap₂, _∙_, subst}
 use mathlib.Core.Bool.{Bool, true, _&&_, and-true}
-use mathlib.Core.List.{List, [], map-id}
+use mathlib.Core.List.{List, [], _∷_, map-id}
 use Prim.Native.Nat.{ℕ, _*_, _%_, _^_}
 use lib.ListN.{getD}
 use Rattle.bits.specs.Bits.{bit, weight}
@@ -23,6 +23,7 @@ use Rattle.automata.specs.declared.Pairs8.{Pairs8}
 use Rattle.automata.specs.Loaded.{cell, autOf, stepsOf, ofPairs, asPairs}
 use Rattle.covering.specs.Entries.{Period, periodCovers}
 use Rattle.periods.specs.declared.table.Word.{Word}
+use Rattle.periods.specs.declared.table.Move.{Move}
 use Rattle.periods.specs.Periods.{periodFirst, wordNext, periodNext, periodTable}
 use Rattle.covering.specs.Masks.{covers}
 use Rattle.periods.specs.Candidates.{moveOf, atState, atLetter}
@@ -30,6 +31,12 @@ use Rattle.covering.proofs.Masks.{covers-contained}
 use Rattle.periods.proofs.Loop.{gather-none}
 
 -- ---- letter by letter
+
+-- the candidate at a successor
+pub state-some : (by : Move) (q : ℕ) {link : ℕ} → bit (by .successors) q ≡ true → link ≡ periodLink q (by .letter) (by .parent)
+    → record { link = link; context = ofPairs (by .context) } ∷ [] ≡ atState by q
+unfolding atState
+state-some by q p e = rw (p, e) refl
 
 module _ (model : List (List ℕ)) (B : Aut) (word : Word) where
   pub move-is : (x : ℕ) {d : Pairs8} → ofPairs d ≡ longer 8 B (ofPairs (word .context)) x

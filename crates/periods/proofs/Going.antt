@@ -11,11 +11,11 @@ use Rattle.growth.specs.Grow.{Outcome, ended, onward, entries, offer}
 use Rattle.growth.specs.Lent.{over}
 use Rattle.growth.proofs.Offering.{ended-is, full-is, offer-longer, offer-within, over-over}
 use Rattle.covering.specs.Entries.{Period, linksOf, contextsOf, held}
-use Rattle.periods.specs.Lent.{Leaves}
+use Rattle.offering.specs.Lent.{Leaves}
 use Rattle.covering.specs.Chained.{Chained}
-use Rattle.periods.specs.Growing.{Ready, Grows}
+use Rattle.offering.specs.Growing.{Ready, Grows}
 use Rattle.covering.proofs.Entries.{contexts-length, held-length, held-over}
-use Rattle.periods.proofs.Appended.{unchanged}
+use Rattle.offering.proofs.Appended.{unchanged}
 
 -- the tables hold n entries over what came, and `rest` of these is the outcome o
 pub record Going (covers : Period → Period → Bool) (room : ℕ) (o : Outcome Period) (rest : List Period → Outcome Period) (links₀ links contexts₀ contexts chains₀ chains : List ℕ) (n : ℕ) : Type 0 where

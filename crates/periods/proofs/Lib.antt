@@ -1,8 +1,6 @@
 -- The laws of the period table: its entries as packed words, and its loops.
 pub mod AtWork
 pub mod Packed
-pub mod Appended
-pub mod Offered
 pub mod Going
 pub mod Loop
 pub mod Rest

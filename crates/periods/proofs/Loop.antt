@@ -12,7 +12,7 @@ use Rattle.growth.specs.Grow.{Outcome, onward, offer}
 use Rattle.growth.specs.Steps.{gather}
 use Rattle.growth.proofs.Offering.{offer-none, gather-on, gather-done}
 use Rattle.covering.specs.Entries.{Period, held}
-use Rattle.periods.specs.Growing.{Ready, Grows}
+use Rattle.offering.specs.Growing.{Ready, Grows}
 use Rattle.periods.proofs.Going.{Going, going, going-as, going-end, going-full, going-on}
 
 -- no candidate at all

@@ -13,7 +13,7 @@ use Rattle.growth.specs.Grow.{Outcome, onward, offer, grow, table}
 use Rattle.growth.proofs.Grown.{grow-end}
 use Rattle.growth.proofs.Offering.{grow-on}
 use Rattle.covering.specs.Entries.{Period, entryIn, held}
-use Rattle.periods.specs.Growing.{Ready, Grows}
+use Rattle.offering.specs.Growing.{Ready, Grows}
 use Rattle.covering.proofs.Entries.{held-length, held-at}
 use Rattle.periods.proofs.Going.{Going, going, going-as, going-end, going-full, going-on}
 

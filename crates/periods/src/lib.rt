@@ -6,7 +6,7 @@ ghost use lib.ListN.{length};
 ghost use Rattle.bits.specs.Bits.{bit};
 ghost use Rattle.automata.specs.Loaded.{cell, autOf};
 ghost use Rattle.periods.specs.Periods.{periodTable};
-ghost use Rattle.periods.specs.Lent.{Leaves};
+ghost use Rattle.offering.specs.Lent.{Leaves};
 use automata::Head;
 use automata::eight;
 use bits::rows;
@@ -35,7 +35,7 @@ pub fn grow(
         (now (links .entry)) (now (links .exit)) (now (contexts .entry)) (now (contexts .exit)) ⌝ }
 {
     let rows = rows::rows(target);
-    table::clear(chains);
+    offering::clear(chains);
     let word = table::Word {
         state,
         parent: 65535,

@@ -1,4 +1,4 @@
-//! Candidates offered to the period table: one, those of a letter, those of an entry.
+//! Candidates offered to the period table: those of a letter, of an entry, of all entries.
 ghost use mathlib.Core.Path.{_≡_};
 ghost use mathlib.Core.Bool.{true};
 ghost use Prim.Native.Nat.{_+_, _*_, _<_, _≤_};
@@ -9,10 +9,9 @@ ghost use Rattle.growth.specs.Grow.{append, offer, table};
 ghost use Rattle.automata.specs.Loaded.{cell, autOf, stepsOf, ofPairs};
 ghost use Rattle.covering.specs.Entries.{contextIn, held};
 ghost use Rattle.covering.specs.Masks.{covers};
-ghost use Rattle.covering.specs.Chained.{Cleared};
 ghost use Rattle.periods.specs.Periods.{wordNext, periodNext};
-ghost use Rattle.periods.specs.Growing.{Roomy, Ready, Grows, Appends};
-ghost use Rattle.periods.specs.Candidates.{moveOf, atState, atLetter};
+ghost use Rattle.offering.specs.Growing.{Ready, Grows};
+ghost use Rattle.periods.specs.Candidates.{moveOf, atLetter};
 use automata::Head;
 use automata::Pairs8;
 use automata::eight;
@@ -32,67 +31,6 @@ struct Move {
     letter: u8,
     parent: u16,
     context: Pairs8,
-}
-
-// The chains of no entry: only their sixteen beginnings are set back.
-pub fn clear(chains: &mut [u16])
-    requires { ⌜ 16 ≤ length (now chains) ⌝ }
-    ensures { λ r. ⌜ Cleared (now (chains .exit)) ⌝ }
-{
-    let mut q = 0usize;
-    while q < 16 {
-        chains[q] = 0;
-        q += 1;
-    }
-}
-
-// An entry more, if there is room: its link, its context's two numbers, and its place at the front of its state's chain.
-fn append(
-    links: &mut [u32],
-    contexts: &mut [u64],
-    chains: &mut [u16],
-    room: usize,
-    n: usize,
-    link: u32,
-    c: Pairs8,
-) -> Growth
-    requires { ⌜ Roomy room n (now links) (now contexts) (now chains) ⌝ }
-    ensures { λ r. ⌜ Appends (append room (held n (now (links .entry)) (now (contexts .entry))) (record { link = link; context = ofPairs c })) r n (linkState link)
-        (now (links .entry)) (now (links .exit)) (now (contexts .entry)) (now (contexts .exit)) (now (chains .entry)) (now (chains .exit)) ⌝ }
-{
-    if n >= room {
-        return Growth::Full;
-    }
-    let state = entries::link_state(link) as usize;
-    links[n] = link;
-    contexts[2 * n] = c.reach;
-    contexts[2 * n + 1] = c.through;
-    chains[16 + n] = chains[state];
-    chains[state] = (n + 1) as u16;
-    Growth::Ended(n + 1)
-}
-
-// The candidate at the successor q: dropped where it is covered, and else appended.
-fn offer_at(
-    links: &mut [u32],
-    contexts: &mut [u64],
-    chains: &mut [u16],
-    room: usize,
-    n: usize,
-    rows: u64,
-    by: Move,
-    q: u8,
-) -> Growth
-    requires { ⌜ (by .letter < 16) × (q < 16) × (bit (by .successors) q ≡ true) ⌝ }
-    requires { ⌜ Ready (covers rows) room n (now links) (now contexts) (now chains) ⌝ }
-    ensures { λ r. ⌜ Grows (covers rows) (offer (covers rows) room (held n (now (links .entry)) (now (contexts .entry))) (atState by q)) r
-        (now (links .entry)) (now (links .exit)) (now (contexts .entry)) (now (contexts .exit)) (now (chains .exit)) ⌝ }
-{
-    let link = entries::period_link(q, by.letter, by.parent);
-    if covering::covered(links, contexts, chains, n, link, by.context, rows) {
-        return Growth::Ended(n);
-    }
-    append(links, contexts, chains, room, n, link, by.context)
 }
 
 // The candidates by one letter, successors rising, until none is left; their context is the same.
@@ -119,7 +57,17 @@ fn by_letter(
             rest = rest >> 1;
             continue;
         }
-        let Growth::Ended(more) = offer_at(links, contexts, chains, room, count, rows, by, q) else {
+        let link = entries::period_link(q, by.letter, by.parent);
+        let Growth::Ended(more) = offering::offer(
+            links,
+            contexts,
+            chains,
+            room,
+            count,
+            rows,
+            link,
+            by.context,
+        ) else {
             return Growth::Full;
         };
         count = more;

@@ -11,7 +11,7 @@ use Rattle.growth.specs.declared.Growth.the-variants.{Ended, Full}
 use Rattle.growth.proofs.Offering.{ended-is, full-is, take-over}
 use Rattle.covering.specs.Entries.{Period, linksOf, contextsOf}
 use Rattle.periods.specs.Periods.{periodTable}
-use Rattle.periods.specs.Lent.{Leaves}
+use Rattle.offering.specs.Lent.{Leaves}
 use Rattle.covering.proofs.Entries.{contexts-length}
 use Rattle.rounds.specs.declared.Rounds.{Rounds}
 use Rattle.rounds.specs.declared.Rounds.the-variants.{Lacking}

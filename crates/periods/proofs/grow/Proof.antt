@@ -1,5 +1,5 @@
 -- `grow` meets its contract: the table that grows from the one-letter words, by masks, is the written table. Assumes nothing.
-use Rattle.periods.proofs.Appended.{ready-none}
+use Rattle.offering.proofs.Appended.{ready-none}
 use Rattle.periods.proofs.Going.{leaves}
 use Rattle.periods.proofs.Candidates.{table-period}
 use borrow.Author.Needs.{needs}

@@ -6,6 +6,7 @@ use Rattle.covering.specs.Entries.{held}
 use Rattle.covering.specs.Masks.{covers}
 use Rattle.periods.proofs.Going.{Going}
 use Rattle.periods.specs.Candidates.{atState, atLetter}
+use Rattle.periods.proofs.Candidates.{state-some}
 use Rattle.periods.proofs.Rest.{Rest, rest-start, rest-half, rest-low, rest-odd, rest-even, rest-none}
 use Rattle.periods.proofs.Loop.{from, loop-start, loop-stop, loop-skip, loop-full, loop-on}
 use borrow.Author.Needs.{needs}
@@ -36,10 +37,11 @@ loop-again c =
     let loop = c .before .before .loop in
     (rest-half (loop .inv .0), loop-skip _ _ _ _ _ (loop .inv .1) (rest-low (loop .inv .0) (omega arith)) refl (rest-even _ (loop .inv .0) (c .if1 .taken)))
 
-offer-at-requires : tie.Need-offer-at-requires Inv-loop μ-loop
-offer-at-requires c κs =
-    let loop = c .before .before .before .before .before .loop in
-    ((search needs, rest-low (loop .inv .0) (omega arith), rest-odd (loop .inv .0) (c .before .before .before .if1 .left)), search needs)
+period-link-requires : tie.Need-period-link-requires Inv-loop μ-loop
+period-link-requires c κs = (rest-low (c .before .before .loop .inv .0) (omega arith), search needs)
+
+offer-requires : tie.Need-offer-requires Inv-loop μ-loop
+offer-requires c κs = search needs
 
 enum-known-more : tie.Need-enum-known-more Inv-loop μ-loop
 enum-known-more c = search needs
@@ -48,31 +50,31 @@ enum-told : tie.Need-enum-told Inv-loop μ-loop
 enum-told c = search needs
 
 same-length : tie.Need-same-length Inv-loop μ-loop
-same-length c = c .before .before .before .before .before .before .before .before .offer-at .kept .0 ∙ c .before .before .before .before .before .before .before .before .before .before .before .before .before .before .loop .inv .1 .links-long
+same-length c = c .before .before .before .before .before .before .before .before .offer .kept .0 ∙ c .before .before .before .before .before .before .before .before .before .before .before .before .before .before .before .loop .inv .1 .links-long
 
 same-length-2 : tie.Need-same-length-2 Inv-loop μ-loop
-same-length-2 c = c .before .before .before .before .before .before .before .before .offer-at .kept .1 .0 ∙ c .before .before .before .before .before .before .before .before .before .before .before .before .before .before .loop .inv .1 .contexts-long
+same-length-2 c = c .before .before .before .before .before .before .before .before .offer .kept .1 .0 ∙ c .before .before .before .before .before .before .before .before .before .before .before .before .before .before .before .loop .inv .1 .contexts-long
 
 same-length-3 : tie.Need-same-length-3 Inv-loop μ-loop
-same-length-3 c = c .before .before .before .before .before .before .before .before .offer-at .kept .1 .1 .0 ∙ c .before .before .before .before .before .before .before .before .before .before .before .before .before .before .loop .inv .1 .chains-long
+same-length-3 c = c .before .before .before .before .before .before .before .before .offer .kept .1 .1 .0 ∙ c .before .before .before .before .before .before .before .before .before .before .before .before .before .before .before .loop .inv .1 .chains-long
 
 returns : tie.Need-returns Inv-loop μ-loop
 returns c =
-    let loop = c .before .before .before .before .before .before .before .before .before .before .before .before .before .before .loop in
-    loop-full _ _ _ _ _ (loop .inv .1) (rest-low (loop .inv .0) (omega arith)) refl (c .enum-told .given .1) (c .before .before .before .before .before .before .before .before .offer-at .ensures)
+    let loop = c .before .before .before .before .before .before .before .before .before .before .before .before .before .before .before .loop in
+    loop-full _ _ _ _ _ (loop .inv .1) (rest-low (loop .inv .0) (omega arith)) (state-some _ _ (rest-odd (loop .inv .0) (c .before .before .before .before .before .before .before .before .before .before .before .before .before .if1 .left)) (c .before .before .before .before .before .before .before .before .before .before .before .before .period-link .ensures)) (c .enum-told .given .1) (c .before .before .before .before .before .before .before .before .offer .ensures)
 
 add-q-2 : tie.Need-add-q-2 Inv-loop μ-loop
-add-q-2 c = omega (arith, rest-low (c .before .before .before .before .before .before .before .before .before .before .before .before .before .before .before .loop .inv .0) (omega arith))
+add-q-2 c = omega (arith, rest-low (c .before .before .before .before .before .before .before .before .before .before .before .before .before .before .before .before .loop .inv .0) (omega arith))
 
 loop-less-2 : tie.Need-loop-less-2 Inv-loop μ-loop
 loop-less-2 c = search needs
 
 loop-again-2 : tie.Need-loop-again-2 Inv-loop μ-loop
 loop-again-2 c =
-    let loop = c .before .before .before .before .before .before .before .before .before .before .before .before .before .before .before .loop in
-    let called = c .before .before .before .before .before .before .before .before .before .offer-at in (
+    let loop = c .before .before .before .before .before .before .before .before .before .before .before .before .before .before .before .before .loop in
+    let called = c .before .before .before .before .before .before .before .before .before .offer in (
       rest-half (loop .inv .0),
-      loop-on _ _ _ _ _ (loop .inv .1) (rest-low (loop .inv .0) (omega arith)) refl (c .before .more .given .1) (called .ensures) (called .kept .0) (called .kept .1 .0) (called .kept .1 .1 .0),
+      loop-on _ _ _ _ _ (loop .inv .1) (rest-low (loop .inv .0) (omega arith)) (state-some _ _ (rest-odd (loop .inv .0) (c .before .before .before .before .before .before .before .before .before .before .before .before .before .before .if1 .left)) (c .before .before .before .before .before .before .before .before .before .before .before .before .before .period-link .ensures)) (c .before .more .given .1) (called .ensures) (called .kept .0) (called .kept .1 .0) (called .kept .1 .1 .0),
     )
 
 same-length-4 : tie.Need-same-length-4 Inv-loop μ-loop
@@ -97,7 +99,8 @@ by-letter-spec =
     add-q
     loop-less
     loop-again
-    offer-at-requires
+    period-link-requires
+    offer-requires
     enum-known-more
     enum-told
     same-length

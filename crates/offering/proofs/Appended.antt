@@ -16,9 +16,9 @@ use Rattle.growth.specs.declared.Growth.the-variants.{Ended, Full}
 use Rattle.growth.proofs.Grown.{append-room, append-full}
 use Rattle.growth.proofs.Offering.{over-self, over-set, set-over}
 use Rattle.covering.specs.Entries.{Period, linksOf, contextsOf, held}
-use Rattle.periods.specs.Lent.{Leaves}
+use Rattle.offering.specs.Lent.{Leaves}
 use Rattle.covering.specs.Chained.{Chained, Cleared}
-use Rattle.periods.specs.Growing.{Roomy, Ready, Grows, Appends}
+use Rattle.offering.specs.Growing.{Roomy, Ready, Grows, Appends}
 use Rattle.covering.proofs.Entries.{contexts-append, held-length, links-held, contexts-held}
 use Rattle.covering.proofs.Chain.{chained-none}
 

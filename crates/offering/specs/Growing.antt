@@ -8,7 +8,7 @@ use Rattle.growth.specs.declared.Growth.{Growth}
 use Rattle.growth.specs.declared.Growth.the-variants.{Ended}
 use Rattle.growth.specs.Grow.{Outcome, entries}
 use Rattle.covering.specs.Entries.{Period, held}
-use Rattle.periods.specs.Lent.{Leaves}
+use Rattle.offering.specs.Lent.{Leaves}
 use Rattle.covering.specs.Chained.{Chained}
 
 -- n entries are there, and the tables have room

@@ -1,4 +1,4 @@
--- A candidate offered: covered, or appended; and one that is none. Assumes nothing.
+-- A candidate offered: covered, or appended. Assumes nothing.
 use mathlib.Core.Path.{_≡_, refl, sym, ap, _∙_, subst}
 use mathlib.Core.Bool.{Bool, true, false, not}
 use mathlib.Core.List.{List, [], _∷_, _++_}
@@ -7,24 +7,20 @@ use native.Mathlib.Omega.{arith}
 use borrow.Author.Tests.{ltb-true, ltb-false}
 use lib.Dec.{ltb}
 use lib.ListN.{length, getD, set}
-use Rattle.bits.specs.Bits.{bit}
-use Rattle.bits.specs.Fields.{periodLink, linkState}
+use Rattle.bits.specs.Fields.{linkState}
 use Rattle.growth.specs.declared.Growth.{Growth}
 use Rattle.growth.specs.declared.Growth.the-variants.{Ended}
 use Rattle.growth.specs.Grow.{Outcome, ended, full, entries, onward, append, covered, offer}
 use Rattle.growth.specs.Lent.{growthOf}
 use Rattle.growth.specs.Steps.{only}
-use Rattle.automata.specs.Loaded.{ofPairs}
 use Rattle.growth.proofs.Grown.{append-room, append-full}
 use Rattle.growth.proofs.Offering.{offer-covered}
 use Rattle.covering.specs.Entries.{Period, held}
 use Rattle.covering.specs.Chained.{Chained}
-use Rattle.periods.specs.Growing.{Ready, Grows, Appends}
-use Rattle.periods.specs.Candidates.{atState}
-use Rattle.periods.specs.declared.table.Move.{Move}
+use Rattle.offering.specs.Growing.{Ready, Grows, Appends}
 use Rattle.covering.proofs.Entries.{held-length}
 use Rattle.covering.proofs.Chain.{chained-append}
-use Rattle.periods.proofs.Appended.{never, unchanged}
+use Rattle.offering.proofs.Appended.{never, unchanged}
 
 -- a candidate that is not covered is appended
 offer-append : {E : Type 0} (covers : E → E → Bool) (room : ℕ) (t : List E) (c : E) → covered covers t c ≡ false → offer covers room t (c ∷ []) ≡ append room t c
@@ -60,11 +56,3 @@ module _ (covers : Period → Period → Bool) {room n : ℕ} {links contexts ch
           (chained-append covers (held n links contexts) e gone (omega (arith, ltb-true n room l, long, held-length links contexts n, ready .roomy .chains-fit)) own (omega arith)))
       at false l m ends =
           absurd (never (sym (ap growthOf (append-full {room = room} (held n links contexts) e (omega (arith, ltb-false n room l, held-length links contexts n)))) ∙ sym (a .lent .answer) ∙ ends))
-
-  module _ (by : Move) (q : ℕ) where
-    -- q is a successor
-    pub offered-some : {link : ℕ} {r : Growth} {links′ contexts′ chains′ : List ℕ} → bit (by .successors) q ≡ true → link ≡ periodLink q (by .letter) (by .parent)
-        → Grows covers (offer covers room (held n links contexts) (record { link = link; context = ofPairs (by .context) } ∷ [])) r links links′ contexts contexts′ chains′
-        → Grows covers (offer covers room (held n links contexts) (atState by q)) r links links′ contexts contexts′ chains′
-    unfolding atState
-    offered-some p e g = rw (p, ← e) g

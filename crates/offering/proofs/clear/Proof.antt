@@ -1,4 +1,4 @@
--- `table::clear` meets its contract. The loop's invariant: the chains of the states below q are cleared. Assumes nothing.
+-- `clear` meets its contract. The loop's invariant: the chains of the states below q are cleared. Assumes nothing.
 use mathlib.Core.Path.{_≡_, _∙_}
 use Prim.Native.Nat.{ℕ, _-_, _≤_, _<_}
 use native.Mathlib.Omega.{arith}
@@ -6,8 +6,8 @@ use lib.ListN.{length, getD, set}
 use lib.Seq.{getD-set-same, getD-set-other}
 use borrow.Author.Count.{below-more}
 use borrow.Author.Needs.{needs}
-use Rattle.periods.proofs.table.clear.Statement.{statement}
-use Rattle.periods.proofs.table.clear.Tie as tie
+use Rattle.offering.proofs.clear.Statement.{statement}
+use Rattle.offering.proofs.clear.Tie as tie
 
 abbrev Inv-loop : tie.InvT-loop
 Inv-loop chains₀ q₀ chains q = (q ≤ 16) × (length chains ≡ length chains₀) × ((p : ℕ) → p < q → getD chains p 0 ≡ 0)

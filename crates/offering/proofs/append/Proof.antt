@@ -1,10 +1,10 @@
--- `table::append` meets its contract: what is written is the tables with one entry more, and the chains go on. Assumes nothing.
+-- `append` meets its contract: what is written is the tables with one entry more, and the chains go on. Assumes nothing.
 use native.Mathlib.Omega.{arith}
 use lib.ListN.{length-set}
-use Rattle.periods.proofs.Appended.{append-none, append-written}
+use Rattle.offering.proofs.Appended.{append-none, append-written}
 use borrow.Author.Needs.{needs}
-use Rattle.periods.proofs.table.append.Statement.{statement}
-use Rattle.periods.proofs.table.append.Tie as tie
+use Rattle.offering.proofs.append.Statement.{statement}
+use Rattle.offering.proofs.append.Tie as tie
 
 returns : tie.Need-returns
 returns c = append-none (c .before .before .before .before .pre) _ (c .if1 .taken)
