@@ -1,4 +1,4 @@
--- What each step of the growth is given, and what it leaves: the lent tables with their entries, and the chains of these. Assumes nothing.
+-- What a step of the growth of a period table is given, and what it leaves: the lent tables with their entries, and the chains of these. Assumes nothing.
 use mathlib.Core.Path.{_≡_}
 use mathlib.Core.Bool.{Bool}
 use mathlib.Core.List.{List, []}

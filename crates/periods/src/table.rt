@@ -1,11 +1,9 @@
 //! Candidates offered to the period table: those of a letter, of an entry, of all entries.
 ghost use mathlib.Core.Path.{_≡_};
-ghost use mathlib.Core.Bool.{true};
-ghost use Prim.Native.Nat.{_+_, _*_, _<_, _≤_};
+ghost use Prim.Native.Nat.{_+_, _*_, _<_};
 ghost use lib.ListN.{length, getD};
-ghost use Rattle.bits.specs.Bits.{bit};
 ghost use Rattle.bits.specs.Fields.{linkState};
-ghost use Rattle.growth.specs.Grow.{append, offer, table};
+ghost use Rattle.growth.specs.Grow.{offer, table};
 ghost use Rattle.automata.specs.Loaded.{cell, autOf, stepsOf, ofPairs};
 ghost use Rattle.covering.specs.Entries.{contextIn, held};
 ghost use Rattle.covering.specs.Masks.{covers};
