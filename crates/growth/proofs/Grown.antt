@@ -25,10 +25,10 @@ module _ {E : Type 0} where
     pub rest : List E
     pub joined : t ++ rest ≡ s
 
-  pub extends-self : {t : List E} → Extends t t
+  extends-self : {t : List E} → Extends t t
   extends-self {t} = record { rest = []; joined = append-nil t }
 
-  pub extends-trans : {t s r : List E} → Extends t s → Extends s r → Extends t r
+  extends-trans : {t s r : List E} → Extends t s → Extends s r → Extends t r
   extends-trans {t} f g = record { rest = f .rest ++ g .rest; joined = rw (← append-assoc, f .joined) (g .joined) }
 
   pub extends-length : {t s : List E} → Extends t s → length t ≤ length s

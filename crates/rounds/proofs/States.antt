@@ -29,8 +29,7 @@ opening-is rows head s =
     and-none true = refl
     and-none false = refl
 
--- ---- for the entry of W at k
-
+-- the round of the entry of W at k
 unfoldable pub roundFor : Aut → List ℕ → ℕ → ℕ → List (ℕ × ℕ)
 roundFor A w s k = roundAt A s (getD w k 0)
 

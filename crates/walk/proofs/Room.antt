@@ -116,7 +116,7 @@ short-told d (both-fit l k (uncut s)) = record {
 -- ---- against the walk without room
 
 module _ {A B : Aut} (bound : Bounded 16 16 A) (small : Small 8 B) {a b : ℕ} (by-a : Numbered a A) (by-b : Numbered b B) where
-  pub unhindered-decided : decided (unhindered A B a b .finish .verdict) ≡ true
+  unhindered-decided : decided (unhindered A B a b .finish .verdict) ≡ true
   unfolding unhindered
   unhindered-decided = walk-decided bound small by-a by-b (a * 2 ^ b) (a * 3 ^ (b * b)) (le-refl (a * 2 ^ b)) (le-refl (a * 3 ^ (b * b)))
 

@@ -40,7 +40,7 @@ module _ (test : ℕ → ℕ → Bool) where
       each d (List·Memᴰ·tail m) = h d m
   searched-on e (one-fails k i j l n m f) = one-fails k i j (omega arith) (omega arith) (List·Memᴰ·tail m) f
 
-  pub searches : (cs : List (ℕ × ℕ)) (t : ℕ) → Searched cs t (search test cs t)
+  searches : (cs : List (ℕ × ℕ)) (t : ℕ) → Searched cs t (search test cs t)
   unfolding search
   searches [] t = all-pass t (omega arith) (λ c m. absurd (List·Memᴰ·not-nil m))
   searches (c ∷ cs) t = at (test (c .0) (c .1)) refl (searches cs (suc t))

@@ -66,7 +66,7 @@ module _ (u : List ℕ) where
 unfoldable pub opening : Aut → ℕ → Bool
 opening A s = A .final s || any (λ x. any (λ q. A .step s x q && A .mark s x q) 16) 16
 
--- the round of an entry of W at such an s: s and the entry's target
+-- the round of an entry e of W, where a period may start at s and e is at s: s and e's target
 unfoldable pub roundAt : Aut → ℕ → ℕ → List (ℕ × ℕ)
 roundAt A s e = only (opening A s && eqb (stemState e) s) (s, stemTarget e)
 
