@@ -62,3 +62,9 @@ and-shifted-one n x q h = ap (bitAnd x) (shifted-one n q h) ∙ and-power n x q 
 pub gathered-more : (f : ℕ → Bool) (q z : ℕ) → z ≡ weight (f q) * 2 ^ q → bitOr (setOf f q) z ≡ setOf f (q + 1)
 unfolding setOf pack
 gathered-more f q z e = ap (bitOr (setOf f q)) e ∙ or-shifted-r (weight (f q)) q (setOf f q) (setOf-lt f q) ∙ rw add-one
+
+-- the test of q as a truth value, shifted to its place
+pub shifted-more : (n : ℕ) (f : ℕ → Bool) (q : ℕ) {b : Bool} → q < n → b ≡ f q → bitOr (setOf f q) (boolByte b * 2 ^ q % 2 ^ n) ≡ setOf f (q + 1)
+shifted-more n f q {b} l e =
+    gathered-more f q (boolByte b * 2 ^ q % 2 ^ n)
+    (ap (λ (x : ℕ). x * 2 ^ q % 2 ^ n) (as-weight b) ∙ mod-eq-of-lt (weighed-lt b (pow-lt l)) ∙ ap (λ (c : Bool). weight c * 2 ^ q) e)

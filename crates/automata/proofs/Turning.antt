@@ -3,23 +3,20 @@ use mathlib.Core.Bool.{Bool, not, _&&_}
 use mathlib.Core.List.{List}
 use mathlib.Core.Path.{_≡_, refl, sym, ap, ap₂, _∙_}
 use Prim.Native.Nat.{ℕ, _+_, _*_, _%_, _^_, _<_}
-use native.Mathlib.Nat.{mod-eq-of-lt}
 use lib.Bits.{bitAnd, bitOr}
 use lib.Dec.{eqb}
 use lib.ListN.{getD}
-use lib.Pow.{pow-lt}
 use mir.Val.{boolByte}
 use Rattle.bits.specs.Bits.{bit, weight, setOf, any}
 use Rattle.bits.specs.Sets.{meets, movesTo, moved, byRows}
 use Rattle.bits.specs.Pairs.{pair, row, pairs}
 use Rattle.bits.proofs.Sets.{meets-test}
-use Rattle.bits.proofs.Operations.{weighed-lt}
 use Rattle.bits.proofs.Quantifiers.{any-cong}
 use Rattle.bits.proofs.Bits.{setOf-cong}
 use Rattle.bits.proofs.Moved.{moved-lt, bit-moved}
 use Rattle.bits.proofs.Pairs.{row-lt, bit-row, row-pairs}
 use Rattle.automata.specs.Repeated.{turning, leadingInto}
-use Rattle.automata.proofs.Members.{as-weight, and-shifted-one, gathered-more}
+use Rattle.automata.proofs.Members.{and-shifted-one, gathered-more, shifted-more}
 
 -- ---- the states that c pairs with themselves
 
@@ -57,11 +54,7 @@ module _ (n paths : ℕ) where
   pub leading-more : (x q : ℕ) {y : ℕ} → q < n → y ≡ row n paths q
       → bitOr (setOf (leads x) q) (boolByte (not (eqb (bitAnd y x) 0)) * 2 ^ q % 2 ^ n) ≡ setOf (leads x) (q + 1)
   unfolding leads
-  leading-more x q {y} h e =
-      gathered-more (leads x) q (boolByte (not (eqb (bitAnd y x) 0)) * 2 ^ q % 2 ^ n)
-      (ap (λ (b : ℕ). b * 2 ^ q % 2 ^ n) (as-weight (not (eqb (bitAnd y x) 0)))
-      ∙ mod-eq-of-lt (weighed-lt (not (eqb (bitAnd y x) 0)) (pow-lt h))
-      ∙ ap (λ (b : Bool). weight b * 2 ^ q) (ap (λ (z : ℕ). not (eqb (bitAnd z x) 0)) e ∙ meets-test n (row n paths q) x (row-lt n paths q)))
+  leading-more x q h e = shifted-more n (leads x) q h (ap (λ (z : ℕ). not (eqb (bitAnd z x) 0)) e ∙ meets-test n (row n paths q) x (row-lt n paths q))
 
   pub leading-all : (x : ℕ) → setOf (leads x) n ≡ leadingInto n paths x
   unfolding leads leadingInto

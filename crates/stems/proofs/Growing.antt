@@ -6,8 +6,6 @@ use Prim.Native.Nat.{ℕ, _+_, _-_, _%_, _≤_, _<_}
 use native.Mathlib.Omega.{arith}
 use lib.ListN.{length, getD, take, set, replicate, length-append}
 use lib.Seq.{length-take-le, getD-take}
-use Rattle.bits.specs.Bits.{weight}
-use Rattle.bits.proofs.Truth.{false-from}
 use Rattle.growth.specs.Grow.{Outcome, ended, onward, entries, covered, grow}
 use Rattle.growth.specs.Lent.{growthOf, over}
 use Rattle.growth.specs.declared.Growth.{Growth}
@@ -15,7 +13,7 @@ use Rattle.growth.specs.declared.Growth.the-variants.{Ended, Full}
 use Rattle.growth.proofs.Grown.{grow-end}
 use Rattle.growth.proofs.Offering.{offer-none, offer-covered, offer-appended, offer-full, offer-longer, offer-within, grow-on, ended-is, full-is, over-self, over-over, over-length, take-over, set-over}
 use Rattle.stems.specs.Stems.{stemCovers}
-use Rattle.stems.specs.Flags.{Marked, Raised}
+use Rattle.stems.specs.Flags.{flagAt, Marked, Raised}
 use Rattle.stems.specs.Growing.{Ready, offered, Kept}
 use Rattle.stems.proofs.Flags.{look, marked-none, marked-more}
 
@@ -26,7 +24,7 @@ module _ (largest : Bool) where
   kept-is e a h m = record { held = record { answer = rw e a; holds = rw e h }; marked = rw e m }
 
   -- no entry, no flag
-  pub ready-none : (room : ℕ) (t : List ℕ) → room ≤ 4096 → room ≤ length t → Ready largest room 0 t (replicate 4096 0)
+  pub ready-none : (room : ℕ) (t : List ℕ) → room ≤ 4096 → room ≤ length t → Ready largest room 0 t (replicate 512 0)
   ready-none room t small lent = record { within = omega arith; small = small; lent = lent; marked = marked-none largest }
 
   module _ (room : ℕ) {n : ℕ} {t marks : List ℕ} (ready : Ready largest room n t marks) where
@@ -41,29 +39,20 @@ module _ (largest : Bool) where
     pub kept-none : Kept largest (offered largest room n t []) t t marks (Ended n)
     kept-none = kept-is (offer-none (stemCovers largest) room (take n t)) (ap Ended (sym long)) still (ready .marked)
 
-    module _ (e : ℕ) {at : ℕ} (place : at ≡ e % 4096) where
-      flag : {b : Bool} → covered (stemCovers largest) (take n t) e ≡ b → getD marks at 0 ≡ weight b
-      flag p = rw place (look largest e (ready .marked) ∙ ap weight p)
+    module _ (e : ℕ) {b : Bool} (looked : b ≡ flagAt marks (e % 4096)) where
+      told : covered (stemCovers largest) (take n t) e ≡ b
+      told = sym (looked ∙ look largest e (ready .marked))
 
-      pub kept-covered : getD marks at 0 ≡ 1 → Kept largest (offered largest room n t (e ∷ [])) t t marks (Ended n)
-      unfolding weight
-      kept-covered f = by (covered (stemCovers largest) (take n t) e) refl
-        where
-          by : (b : Bool) → covered (stemCovers largest) (take n t) e ≡ b → Kept largest (offered largest room n t (e ∷ [])) t t marks (Ended n)
-          by true p = kept-is (offer-covered (stemCovers largest) room (take n t) e p) (ap Ended (sym long)) still (ready .marked)
-          by false p = absurd (omega (arith, f, flag p))
+      pub kept-covered : b ≡ true → Kept largest (offered largest room n t (e ∷ [])) t t marks (Ended n)
+      kept-covered f = kept-is (offer-covered (stemCovers largest) room (take n t) e (told ∙ f)) (ap Ended (sym long)) still (ready .marked)
 
-      uncovered : (getD marks at 0 ≡ 1 → ⊥) → covered (stemCovers largest) (take n t) e ≡ false
-      unfolding weight
-      uncovered f = false-from (covered (stemCovers largest) (take n t) e) (λ p. f (flag p))
+      pub kept-full : b ≡ false → room ≤ n → Kept largest (offered largest room n t (e ∷ [])) t t marks Full
+      kept-full f l = kept-is (offer-full (stemCovers largest) room (take n t) e (told ∙ f) (omega (arith, long))) refl still (ready .marked)
 
-      pub kept-full : (getD marks at 0 ≡ 1 → ⊥) → room ≤ n → Kept largest (offered largest room n t (e ∷ [])) t t marks Full
-      kept-full f l = kept-is (offer-full (stemCovers largest) room (take n t) e (uncovered f) (omega (arith, long))) refl still (ready .marked)
-
-      pub kept-appended : {marked : List ℕ} → (getD marks at 0 ≡ 1 → ⊥) → n < room → Raised largest e marks marked
+      pub kept-appended : {marked : List ℕ} → b ≡ false → n < room → Raised largest e marks marked
           → Kept largest (offered largest room n t (e ∷ [])) t (set t n e) marked (Ended (n + 1))
       kept-appended f l r =
-          kept-is (offer-appended (stemCovers largest) room (take n t) e (uncovered f) (omega (arith, long))) (ap Ended more)
+          kept-is (offer-appended (stemCovers largest) room (take n t) e (told ∙ f) (omega (arith, long))) (ap Ended more)
           (set-over n t e (omega (arith, ready .lent))) (marked-more largest e (ready .marked) r)
         where
           more : n + 1 ≡ length (take n t ++ (e ∷ []))

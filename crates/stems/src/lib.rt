@@ -27,7 +27,7 @@ struct Move {
 // A candidate is dropped where it is covered, and else appended and marked where there is room.
 fn offer(
     table: &mut [u32],
-    marks: &mut [u8; 4096],
+    marks: &mut [u8; 512],
     room: usize,
     n: usize,
     largest: bool,
@@ -36,7 +36,7 @@ fn offer(
     requires { ⌜ Ready largest room n (now table) (now marks) ⌝ }
     ensures { λ r. ⌜ Kept largest (offered largest room n (now (table .entry)) (entry ∷ [])) (now (table .entry)) (now (table .exit)) (now (marks .exit)) r ⌝ }
 {
-    if marks[marks::place(entry)] == 1 {
+    if marks::look(marks, entry) {
         return Growth::Ended(n);
     }
     if n >= room {
@@ -50,7 +50,7 @@ fn offer(
 // The candidate at state q, where q is a successor.
 fn offer_at(
     table: &mut [u32],
-    marks: &mut [u8; 4096],
+    marks: &mut [u8; 512],
     room: usize,
     n: usize,
     largest: bool,
@@ -71,7 +71,7 @@ fn offer_at(
 // The candidates by one letter: successor states rising.
 fn by_letter(
     table: &mut [u32],
-    marks: &mut [u8; 4096],
+    marks: &mut [u8; 512],
     room: usize,
     n: usize,
     largest: bool,
@@ -111,7 +111,7 @@ fn step(model: &[[u16; 16]; 16], rule: &[[u8; 8]; 16], i: u16, entry: u32, x: us
 // The candidates of the entry at index i: letters rising.
 fn expand(
     table: &mut [u32],
-    marks: &mut [u8; 4096],
+    marks: &mut [u8; 512],
     room: usize,
     n: usize,
     largest: bool,
@@ -146,7 +146,7 @@ fn expand(
 // The entries are taken in order, until all have been taken or one that must be appended lacks room.
 fn take_all(
     table: &mut [u32],
-    marks: &mut [u8; 4096],
+    marks: &mut [u8; 512],
     room: usize,
     n: usize,
     largest: bool,
@@ -190,7 +190,7 @@ pub fn grow(
     requires { ⌜ («model_head» .start < 16) × («rule_head» .start < 8) ⌝ }
     ensures { λ r. ⌜ Held (stemTable (autOf (cell (now (model .entry))) «model_head») (autOf (cell (now (rule .entry))) «rule_head») largest room) (now (table .entry)) (now (table .exit)) r ⌝ }
 {
-    let mut marks = [0u8; 4096];
+    let mut marks = [0u8; 512];
     let first = root(model_head.start, rule_head.start);
     let Growth::Ended(n) = offer(table, &mut marks, room, 0, largest, first) else {
         return Growth::Full;

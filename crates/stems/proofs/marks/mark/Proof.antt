@@ -1,4 +1,4 @@
--- `mark` meets its contract. The loop's invariant: the flags at the targets below t are raised. Assumes nothing.
+-- `marks::mark` meets its contract. The loop's invariant: the flags of the first g groups of eight are raised. Assumes nothing.
 use native.Mathlib.Nat.{le-antisymm}
 use mathlib.Core.Path.{_≡_}
 use Rattle.bits.specs.Fields.{stemState, stemTarget}
@@ -10,10 +10,10 @@ use Rattle.stems.proofs.marks.mark.Statement.{statement}
 use Rattle.stems.proofs.marks.mark.Tie as tie
 
 abbrev Inv-loop : tie.InvT-loop
-Inv-loop marks₀ entry largest state target t₀ marks t = (t ≤ 256) × (state ≡ stemState entry) × (target ≡ stemTarget entry) × (length marks₀ ≡ 4096) × RaisedBelow t largest entry marks₀ marks
+Inv-loop marks₀ entry largest state target g₀ marks g = (g ≤ 32) × (state ≡ stemState entry) × (target ≡ stemTarget entry) × (length marks₀ ≡ 512) × RaisedBelow g largest entry marks₀ marks
 
 abbrev μ-loop : tie.MeasureT-loop
-μ-loop marks₀ entry largest state target t₀ marks t = 256 - t
+μ-loop marks₀ entry largest state target g₀ marks g = 32 - g
 
 stem-state-requires : tie.Need-stem-state-requires Inv-loop μ-loop
 stem-state-requires c κs = search needs
@@ -33,20 +33,23 @@ mul-at c = search needs
 add-at : tie.Need-add-at Inv-loop μ-loop
 add-at c = search needs
 
-element-copy-out-raised : tie.Need-element-copy-out-raised Inv-loop μ-loop
-element-copy-out-raised c = search needs
+element-copy-out-marks : tie.Need-element-copy-out-marks Inv-loop μ-loop
+element-copy-out-marks c = search needs
 
-cast-raised : tie.Need-cast-raised Inv-loop μ-loop
-cast-raised c = search needs
+mul-covered-from : tie.Need-mul-covered-from Inv-loop μ-loop
+mul-covered-from c = search needs
 
-raised-requires : tie.Need-raised-requires Inv-loop μ-loop
-raised-requires c κs = search needs
+cast-covered-from : tie.Need-cast-covered-from Inv-loop μ-loop
+cast-covered-from c = search needs
+
+covered-from-requires : tie.Need-covered-from-requires Inv-loop μ-loop
+covered-from-requires c κs = search needs
 
 element-write-marks : tie.Need-element-write-marks Inv-loop μ-loop
 element-write-marks c = search needs
 
-add-t : tie.Need-add-t Inv-loop μ-loop
-add-t c = search needs
+add-g : tie.Need-add-g Inv-loop μ-loop
+add-g c = search needs
 
 loop-less : tie.Need-loop-less Inv-loop μ-loop
 loop-less c = search needs
@@ -58,7 +61,7 @@ loop-again c = (
   search needs,
   search needs,
   raised-more (c .before .before .before .before .before .before .args .largest) (c .before .before .before .before .before .before .args .entry)
-      (c .before .before .before .loop .t) (c .before .before .before .loop .inv .4) (search needs) (search needs) (search needs) (search needs) (c .raised .ensures),
+      (c .before .before .before .loop .g) (c .before .before .before .loop .inv .4) (c .before .before .before .loop .inv .3) (search needs) (c .before .before .before .loop .inv .1) (c .before .before .before .loop .inv .2) (c .covered-from .ensures),
 )
 
 returns : tie.Need-returns Inv-loop μ-loop
@@ -76,11 +79,12 @@ mark-spec =
     loop-holds
     mul-at
     add-at
-    element-copy-out-raised
-    cast-raised
-    raised-requires
+    element-copy-out-marks
+    mul-covered-from
+    cast-covered-from
+    covered-from-requires
     element-write-marks
-    add-t
+    add-g
     loop-less
     loop-again
     returns)
