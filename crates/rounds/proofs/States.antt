@@ -1,6 +1,6 @@
 -- Which rounds there are: by the states of A, and by the entries of W. Assumes nothing.
-use mathlib.Core.Path.{_≡_, refl, sym, ap, _∙_}
-use mathlib.Core.Bool.{Bool, true, false, _&&_, _||_, or-false}
+use mathlib.Core.Path.{_≡_, sym, ap, _∙_}
+use mathlib.Core.Bool.{Bool, true, false, _&&_, _||_, and-false, or-false}
 use mathlib.Core.List.{List, [], _∷_}
 use Prim.Native.Nat.{ℕ, zero, suc, _≤_}
 use native.Mathlib.Omega.{arith}
@@ -22,12 +22,8 @@ pub opening-is : (rows : ℕ → ℕ → ℕ) (head : Head) (s : ℕ) → openin
 unfolding opening autOf
 opening-is rows head s =
     ap (λ (b : Bool). bit (head .accepting) s || b)
-    (any-none (λ x. any (λ q. bit (rows x s) q && false) 16) 16 (λ x l. any-none (λ q. bit (rows x s) q && false) 16 (λ q m. and-none (bit (rows x s) q))))
+    (any-none (λ x. any (λ q. bit (rows x s) q && false) 16) 16 (λ x l. any-none (λ q. bit (rows x s) q && false) 16 (λ q m. and-false (bit (rows x s) q))))
     ∙ or-false (bit (head .accepting) s)
-  where
-    and-none : (b : Bool) → (b && false) ≡ false
-    and-none true = refl
-    and-none false = refl
 
 -- the round of the entry of W at k
 unfoldable pub roundFor : Aut → List ℕ → ℕ → ℕ → List (ℕ × ℕ)
