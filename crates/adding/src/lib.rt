@@ -1,4 +1,5 @@
 //! What one record says, and what it adds to what the records before it said.
+#![tactic(auto)]
 ghost use Rattle.std.specs.Prelude.{◌⊎◌, ◌≡◌, ◌+◌, ◌*◌, ◌^◌, ◌<◌, max, length};
 ghost use Rattle.bits.specs.Sets.{union};
 ghost use Rattle.adding.specs.Bytes.{kind_i, kind_f, kind_t};
@@ -8,7 +9,7 @@ use automata::Head;
 use bits::members::has16;
 
 // A transition.
-#[derive(Drop)]
+#[derive(Clone, Copy)]
 pub struct Edge {
     pub source: u8,
     pub letter: u8,
@@ -16,7 +17,7 @@ pub struct Edge {
 }
 
 // What four bytes say, or the number of the refusal that they meet by themselves.
-#[derive(Drop)]
+#[derive(Clone, Copy)]
 pub enum Record {
     Initial(u8),
     Accepting(u8),
@@ -25,7 +26,7 @@ pub enum Record {
 }
 
 // Where a record leads: to the head of the records so far, or to the number of its refusal.
-#[derive(Drop)]
+#[derive(Clone, Copy)]
 pub enum Step {
     On(Head),
     Stop(u8),

@@ -1,4 +1,5 @@
 //! What a host in C calls.
+#![tactic(auto)]
 ghost use Rattle.std.specs.Prelude.{◌≡◌};
 ghost use Rattle.inclusion.specs.Decided.{number_of};
 ghost use Rattle.membership.specs.Test.{host_number};

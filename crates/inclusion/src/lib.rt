@@ -1,4 +1,5 @@
 //! The entry point: two record files, the room, and six lent buffers.
+#![tactic(auto)]
 ghost use Rattle.std.specs.Prelude.{[], ◌∷◌, ◌≡◌};
 ghost use Rattle.records.specs.Faults.{refusal};
 ghost use Rattle.inclusion.specs.declared.Answer.TheVariants.{Refused};
@@ -11,7 +12,7 @@ use records::Refusal;
 use search::{Counts, Ending, Lengths};
 
 // What the tool answers: a verdict with its counts, for a shown lasso the lengths of its words, or a refusal with the counts so far.
-#[derive(Drop)]
+#[derive(Clone, Copy)]
 pub enum Answer {
     Included(Counts),
     NotIncluded(Counts, Lengths),

@@ -1,4 +1,5 @@
 //! The lassos of one round: each stem at s with target inside w's, with each period at s, tested in order up to the first rejected one.
+#![tactic(auto)]
 ghost use Rattle.std.specs.Prelude.{◌≡◌, cond, ◌+◌, ◌*◌, ◌<◌, ◌≤◌, eqb, length, get_or, set};
 ghost use Rattle.bits.specs.Sets.{meets};
 ghost use Rattle.bits.specs.Fields.{stem_target, link_state};
@@ -11,7 +12,7 @@ use automata::{Pairs8, eight};
 use bits::{entries, members};
 
 // All lassos passed, or the first rejected one by the indices of its stem and its period; with the tests made.
-#[derive(Drop)]
+#[derive(Clone, Copy)]
 pub enum Found {
     Passed(usize),
     Rejected {

@@ -1,4 +1,5 @@
 //! What comes before the walk: both files are read and judged, and then the room and what is lent.
+#![tactic(auto)]
 ghost use Rattle.std.specs.Prelude.{◌≡◌};
 ghost use Rattle.loading.specs.Outset.{long_enough, outset_of, Loads};
 
@@ -6,14 +7,14 @@ use automata::Head;
 use records::{Checked, Refusal};
 
 // Whether the walk is made, with the heads of the two automata, or the refusal that comes before it.
-#[derive(Drop)]
+#[derive(Clone, Copy)]
 pub enum Outset {
     Walks(Head, Head),
     Stops(Refusal),
 }
 
 // How many elements each of the six lent buffers has.
-#[derive(Drop)]
+#[derive(Clone, Copy)]
 pub struct Sizes {
     pub smallest: usize,
     pub largest: usize,

@@ -1,4 +1,5 @@
 //! The lasso test: is a lasso, given as a stem and a period, accepted by the automaton of a record file?
+#![tactic(auto)]
 ghost use Rattle.std.specs.Prelude.{true, ◌≡◌, ◌<◌, length, get_or};
 ghost use Rattle.acceptance.specs.Contexts.{target, context_of};
 ghost use Rattle.automata.specs.Loaded.{cell, aut_of, of_rows};
@@ -13,7 +14,7 @@ use bits::members;
 use records::{Checked, Refusal};
 
 // What the test answers.
-#[derive(Drop)]
+#[derive(Clone, Copy)]
 pub enum Tested {
     Accepted,
     Rejected,
@@ -21,7 +22,7 @@ pub enum Tested {
 }
 
 // What checking a word answers: its letters are below 16, or the index of the first that is not.
-#[derive(Drop)]
+#[derive(Clone, Copy)]
 enum Letters {
     Good,
     Bad(usize),

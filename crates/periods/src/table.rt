@@ -14,7 +14,7 @@ use bits::entries;
 use growth::Growth;
 
 // A word that is made longer: the state of A that it leads to, its index in the table, and its context.
-#[derive(Drop)]
+#[derive(Clone, Copy)]
 pub struct Word {
     pub state: u8,
     pub parent: u16,
@@ -22,7 +22,7 @@ pub struct Word {
 }
 
 // A word longer by one letter: the states that it leads to, the letter, the shorter word's index, and its context.
-#[derive(Drop)]
+#[derive(Clone, Copy)]
 struct Move {
     successors: u16,
     letter: u8,

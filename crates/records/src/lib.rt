@@ -1,4 +1,5 @@
 //! Record files: read in one pass to a loaded automaton, or refused at the first fault.
+#![tactic(auto)]
 ghost use Rattle.std.specs.Prelude.{[], ◌≡◌, ◌+◌, ◌<◌, ◌≤◌, length, take, drop};
 ghost use Rattle.records.specs.Spelled.{table_of};
 ghost use Rattle.records.specs.Faults.{good_records, judged, refusal_of};
@@ -9,7 +10,7 @@ use adding::Step;
 use automata::Head;
 
 // A refusal as document 01 tells it: its number, which file, word or table it is about, and its place there.
-#[derive(Drop)]
+#[derive(Clone, Copy)]
 pub struct Refusal {
     pub number: u8,
     pub which: u8,
@@ -17,7 +18,7 @@ pub struct Refusal {
 }
 
 // What reading a file answers: its head, or the number and the place of its first fault.
-#[derive(Drop)]
+#[derive(Clone, Copy)]
 pub enum Checked {
     Good(Head),
     Refused(u8, usize),

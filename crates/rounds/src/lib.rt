@@ -1,5 +1,6 @@
 //! The rounds: for each accepting state s of the model, and each entry of W at s, a period table built afresh and the lassos tested. The counts so
 //! far go with them: p, the most entries that a period table had, and t, the tests made.
+#![tactic(auto)]
 ghost use Rattle.std.specs.Prelude.{◌≡◌, true, ◌*◌, ◌^◌, max, ◌<◌, ◌≤◌, length};
 ghost use Rattle.bits.specs.Bits.{bit};
 ghost use Rattle.automata.specs.Loaded.{cell, aut_of};
@@ -13,7 +14,7 @@ use growth::Growth;
 use lassos::Found;
 
 // No lasso was rejected; a period table lacks room; or a lasso was rejected, of the stem and the period at these indices, in a table of that size.
-#[derive(Drop)]
+#[derive(Clone, Copy)]
 pub enum Rounds {
     Through {
         p: usize,

@@ -1,6 +1,7 @@
 //! Runs document 01's sample models of the entry point, M1 to M7 and M10 to M13, and prints for each its name, S and P, the nine numbers of its answer
 //! (number, which, place, u, w, p, t, and the letters of the stem and of the period that are shown), and those letters. Cases of one sample come in
 //! document 01's order; the last of M13 is lent a stem output of S - 1 bytes.
+#![tactic(auto)]
 ghost use Rattle.std.specs.Prelude.{◌≡◌, length};
 
 use libc::STDOUT_FILENO;

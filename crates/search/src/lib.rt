@@ -1,4 +1,5 @@
 //! The walk on loaded automata and lent tables.
+#![tactic(auto)]
 ghost use Rattle.std.specs.Prelude.{◌≡◌, length, replicate};
 ghost use Rattle.automata.specs.Loaded.{cell, aut_of};
 ghost use Rattle.walk.specs.Walk.{walk};
@@ -11,7 +12,7 @@ use growth::Growth;
 use rounds::Rounds;
 
 // Document 01's counts: the entries of U and of W, the most entries that a period table had, the tests made.
-#[derive(Drop)]
+#[derive(Clone, Copy)]
 pub struct Counts {
     pub u: usize,
     pub w: usize,
@@ -20,14 +21,14 @@ pub struct Counts {
 }
 
 // The letters of the stem and of the period that are shown.
-#[derive(Drop)]
+#[derive(Clone, Copy)]
 pub struct Lengths {
     pub stem: usize,
     pub period: usize,
 }
 
 // How the walk ends: no lasso was rejected, one was and is shown, or a table lacks room (a stem table: 0 for U, 1 for W).
-#[derive(Drop)]
+#[derive(Clone, Copy)]
 pub enum Ending {
     Included(Counts),
     Shown(Counts, Lengths),

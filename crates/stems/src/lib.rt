@@ -1,4 +1,5 @@
 //! The stem tables U and W (document 01, "The walk", 1 and 2), grown in a lent table.
+#![tactic(auto)]
 ghost use Rattle.std.specs.Prelude.{◌≡◌, [], ◌∷◌, ◌^◌, ◌≤◌, ◌<◌, length, get_or, take};
 ghost use Rattle.bits.specs.Fields.{stem_entry};
 ghost use Rattle.automata.specs.Loaded.{cell, aut_of, steps_of};
@@ -15,7 +16,7 @@ ghost use Rattle.stems.specs.Growing.{Ready, offered, Kept};
 mod marks;
 
 // One letter from the entry at index `parent`: its successor states, and the target that it is moved to.
-#[derive(Drop)]
+#[derive(Clone, Copy)]
 struct Move {
     successors: u16,
     target: u8,

@@ -1,4 +1,5 @@
 //! The program: reads model.rec and rule.rec where it is run, decides with S = 4,096 and P = 2,048, and prints the answer.
+#![tactic(auto)]
 ghost use Rattle.std.specs.Prelude.{◌≤◌, length};
 
 use inclusion::Answer;
