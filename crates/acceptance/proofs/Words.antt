@@ -39,7 +39,7 @@ module _ {n : ℕ} {B : Aut} (small : Small n B) where
   describes_append : {c : Context} {w : Word} (x : Word) → Describes n B c w → Describes n B (longer_all n B c x) (w ++ x)
   unfolding longer_all
   describes_append {c} {w} [] d = rw append-nil d
-  describes_append {c} {w} (y ∷ x) d = rw append_assoc at (describes_append x (describes_snoc small y d))
+  describes_append {c} {w} (y ∷ x) d = rw append_assoc at (describes_append {c = longer n B c y} {w = w ++ (y ∷ [])} x (describes_snoc small y d))
 
   pub describes_word : (w : Word) → Describes n B (context_of n B w) w
   unfolding context_of
