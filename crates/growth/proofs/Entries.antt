@@ -39,7 +39,7 @@ module _ {E : Type 0} where
   at_mem at_head = Memᴰ.head refl
   at_mem (at_tail a) = Memᴰ.tail (at_mem a)
 
-  pub mem_at : {t : List E} {e : E} → Memᴰ e t → (i : ℕ) × At t i e
+  pub mem_at : {e : E} {t : List E} → Memᴰ e t → (i : ℕ) × At t i e
   mem_at (Memᴰ.head p) = (0, rw p at_head)
   mem_at (Memᴰ.tail m) = let (i, a) = mem_at m in (suc i, at_tail a)
 
@@ -98,6 +98,7 @@ module _ {E : Type 0} where
 
   pub at_snoc : (t : List E) {c : E} {i : ℕ} {e : E} → At (t ++ (c ∷ [])) i e → Snoc t c i e
   at_snoc [] at_head = new
+  at_snoc [] {c = c} {e = e} (at_tail {i = i} a) = elim a [ ]
   at_snoc (x ∷ t) at_head = old at_head
   at_snoc (x ∷ t) (at_tail a) = snoc_later (at_snoc t a)
 

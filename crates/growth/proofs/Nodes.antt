@@ -104,7 +104,7 @@ module _ {A : Aut} {L : Type 0} {advance : L → ℕ → L} {test : L → L → 
         unfolding children child
         answered i e x q a s =
             let m = mem_steps letters states (λ x q. A.step e.state x q) (child advance i e) x q (bound.letter_bound e.state x q s) (bound.small.step_small e.state x q s) s in
-            let (_, d, b, k) = covering (covers_by test) t (child advance i e x q) ((closed.0.at_entry_lem a).covered_all m) in
+            let (_, d, b, k) = covering (covers_by test) t (child advance i e x q) ((closed.0.at_entry a).covered_all m) in
             covers_below b (true_child i e x q ((rw is at true_entries).each a) s) k
 
         -- every path of A on from a first candidate has an entry at its end
