@@ -1,0 +1,25 @@
+-- `covered` meets its contract. Assumes nothing.
+use mathlib.Core.Path.{sym, ◌∙◌}
+use Prim.Native.Nat.{◌+◌, ◌/◌}
+use native.Mathlib.Omega.{arith}
+use lib.ListN.{length}
+use Rattle.covering.proofs.Entries.{held_length}
+use Rattle.covering.proofs.Chain.{chained_beyond}
+use Rattle.covering.proofs.Guesses.{guessed_covers}
+use Rattle.covering.proofs.covered.Goals as goal
+
+pub overflow_cast-chains : goal.overflow_cast-chains
+overflow_cast-chains c = omega (arith, c.slice_known-2-1.given (length c.args.chains.now / 2 + c.kind_of.result))
+
+pub returns-then-guessed : goal.returns-then-guessed
+returns-then-guessed c = record { value = sym (guessed_covers _ _ _ _ _ _ _ c.link_state-state.ensures c.lacking-missing.ensures (sym c.guessed.ensures ∙ c.if-guessed.true)); chained_2 = c.requires.chained }
+
+pub returns-then-scan : goal.returns-then-scan
+returns-then-scan c =
+    let (is, chained) = c.scan.ensures in
+    record { value = sym c.if-scan.true ∙ is; chained_2 = chained_beyond _ _ _ (rw c.if-scan.true at chained) (omega (arith, c.requires.n_in_bounds, held_length c.args.links.now c.args.contexts.now c.args.n)) }
+
+pub returns : goal.returns
+returns c =
+    let (is, chained) = c.scan.ensures in
+    record { value = sym c.if-scan.false ∙ is; chained_2 = chained_beyond _ _ _ (rw c.if-scan.false at chained) (omega (arith, c.requires.n_in_bounds, held_length c.args.links.now c.args.contexts.now c.args.n)) }

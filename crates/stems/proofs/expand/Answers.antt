@@ -1,0 +1,44 @@
+-- `expand` meets its contract. The loop's invariant: what comes of the letters from x on is what comes of all. Assumes nothing.
+use mathlib.Core.Path.{ap}
+use native.Mathlib.Omega.{arith}
+use Rattle.stems.specs.declared.Move.{Move}
+use lib.ListN.{get_or}
+use Rattle.growth.proofs.Offering.{gather_on, gather_done}
+use Rattle.stems.specs.Candidates.{move_of}
+use Rattle.stems.proofs.Candidates.{by_letter, letters_all}
+use Rattle.stems.proofs.Growing.{going_from, going_on, going_full, going_end}
+use borrow.Author.Rules.{rules}
+use Prim.Native.Nat.{◌-◌}
+use Rattle.stems.proofs.expand.Goals as goal
+
+pub loop-x-init : goal.loop-x-init
+loop-x-init c =
+    let start = c in
+    (search rules, rw (letters_all start.args.model.now start.args.rule.now start.args.i (get_or start.args.table.now start.args.i 0)) (going_from _ _ start.requires.ready))
+
+pub by_letter-requires : goal.by_letter-requires
+unfolding move_of
+by_letter-requires c = record { ready = search rules; letter_bound = omega (arith, ap (λ (m : Move). m.letter) c.step.ensures) }
+
+pub returns-in_default : goal.returns-in_default
+unfolding by_letter
+returns-in_default c =
+    let at = c in
+    let start = at in
+    going_full _ _ _ _ at.loop-x.invariant.1 (gather_on _ _ (by_letter start.args.model.now start.args.rule.now start.args.i (get_or start.args.table.now start.args.i 0)) 16 at.loop-x.x _ (omega arith))
+    (rw c.step.ensures at c.by_letter.ensures) c.in_default.is
+
+pub loop-x-preserved : goal.loop-x-preserved
+unfolding by_letter
+loop-x-preserved c =
+    let at = c in
+    let start = at in (
+      search rules,
+      going_on _ _ _ _ at.loop-x.invariant.1 (gather_on _ _ (by_letter start.args.model.now start.args.rule.now start.args.i (get_or start.args.table.now start.args.i 0)) 16 at.loop-x.x _ (omega arith))
+          (rw c.step.ensures at c.by_letter.ensures) c.in-Ended.is,
+    )
+
+pub returns : goal.returns
+returns c =
+    let start = c in
+    going_end _ _ c.loop-x.invariant.1 (gather_done _ _ (by_letter start.args.model.now start.args.rule.now start.args.i (get_or start.args.table.now start.args.i 0)) 16 c.loop-x.x _ (omega arith))
