@@ -13,13 +13,13 @@ pub add_transition-requires : goal.add_transition-requires
 add_transition-requires c = subst Sized c.in-Transition.is c.requires
 
 pub returns-in-Initial : goal.returns-in-Initial
-returns-in-Initial c = rw c.in-Initial.is (c.add_initial.ensures, refl)
+returns-in-Initial c = rw c.in-Initial.is record { step = c.add_initial.ensures; table = refl }
 
 pub returns-in-Accepting : goal.returns-in-Accepting
-returns-in-Accepting c = rw c.in-Accepting.is (c.add_accepting.ensures, refl)
+returns-in-Accepting c = rw c.in-Accepting.is record { step = c.add_accepting.ensures; table = refl }
 
 pub returns-in-Transition : goal.returns-in-Transition
 returns-in-Transition c = rw c.in-Transition.is c.add_transition.ensures
 
 pub returns-in-Wrong : goal.returns-in-Wrong
-returns-in-Wrong c = rw c.in-Wrong.is (refl, refl)
+returns-in-Wrong c = rw c.in-Wrong.is record { step = refl; table = refl }

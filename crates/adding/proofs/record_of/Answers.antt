@@ -13,4 +13,4 @@ returns-in-84 c = rw c.in-84.is c.transition.ensures
 pub returns-in_default : goal.returns-in_default
 unfolding record_of
 returns-in_default c =
-    simp (ne_eqb _ _ c.in_default.rest.0.1, ne_eqb _ _ (λ e. c.in_default.rest.1 (inl e)), ne_eqb _ _ (λ e. c.in_default.rest.1 (inr e)))
+    simp (ne_eqb _ _ c.in_default.in_default-own.rest.0.1, ne_eqb _ _ (λ e. c.in_default.in_default-own.rest.1 (inl e)), ne_eqb _ _ (λ e. c.in_default.in_default-own.rest.1 (inr e)))

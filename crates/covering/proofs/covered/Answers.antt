@@ -16,10 +16,8 @@ returns-then-guessed c = record { value = sym (guessed_covers _ _ _ _ _ _ _ c.li
 
 pub returns-then-scan : goal.returns-then-scan
 returns-then-scan c =
-    let (is, chained) = c.scan.ensures in
-    record { value = sym c.if-scan.true ∙ is; chained_2 = chained_beyond _ _ _ (rw c.if-scan.true at chained) (omega (arith, c.requires.n_in_bounds, held_length c.args.links.now c.args.contexts.now c.args.n)) }
+    record { value = sym c.if-scan.true ∙ c.scan.ensures.value; chained_2 = chained_beyond _ _ _ (rw c.if-scan.true at c.scan.ensures.chained_2) (omega (arith, c.requires.n_in_bounds, held_length c.args.links.now c.args.contexts.now c.args.n)) }
 
 pub returns : goal.returns
 returns c =
-    let (is, chained) = c.scan.ensures in
-    record { value = sym c.if-scan.false ∙ is; chained_2 = chained_beyond _ _ _ (rw c.if-scan.false at chained) (omega (arith, c.requires.n_in_bounds, held_length c.args.links.now c.args.contexts.now c.args.n)) }
+    record { value = sym c.if-scan.false ∙ c.scan.ensures.value; chained_2 = chained_beyond _ _ _ (rw c.if-scan.false at c.scan.ensures.chained_2) (omega (arith, c.requires.n_in_bounds, held_length c.args.links.now c.args.contexts.now c.args.n)) }
