@@ -1,0 +1,8 @@
+use mathlib.Core.List.{[]}
+use Prim.Native.Nat.{◌-◌}
+use Rattle.bits.proofs.Values.{Filled}
+use Rattle.records.specs.Narrow.{narrow_row}
+use Rattle.records.proofs.narrowed.Given as goal
+
+abbrev pub invariant-loop-x : goal.invariant-loop-x
+invariant-loop-x l = Filled [] (narrow_row l.table) 16 l.rows l.x
