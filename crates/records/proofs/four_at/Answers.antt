@@ -11,10 +11,10 @@ returns-then-file-place-lt4 c =
     let file = c.args.file.now in
     let place = c.args.place in
     let rest : length (drop place file) ≡ length file - place = length-drop place file in
-    (take_all (length file - place) (drop place file) (omega arith) ∙ sym (take_all 4 (drop place file) (omega arith)), (refl, omega arith))
+    record { contents = take_all (length file - place) (drop place file) (omega arith) ∙ sym (take_all 4 (drop place file) (omega arith)); block = refl; offset = omega arith }
 
 pub returns : goal.returns
 returns c =
     let place = c.args.place in
     let four : place + 4 - place ≡ 4 = omega arith in
-    (ap (λ (n : ℕ). take n (drop place c.args.file.now)) four, (refl, omega arith))
+    record { contents = ap (λ (n : ℕ). take n (drop place c.args.file.now)) four; block = refl; offset = omega arith }

@@ -17,12 +17,6 @@ offset_bounds-table-x c = omega arith
 pub offset_bounds-table-p : goal.offset_bounds-table-p
 offset_bounds-table-p c = omega arith
 
-pub ?bounds-1-row : goal.?bounds-1-row
-?bounds-1-row c = omega arith
-
-pub ?bounds-2-row : goal.?bounds-2-row
-?bounds-2-row c = omega arith
-
 pub overflow_cast-row : goal.overflow_cast-row
 unfolding cell
 overflow_cast-row c = omega (arith, and_mask (cell c.args.table.now c.args.x c.loop-p.p) 8)
@@ -41,11 +35,11 @@ unfolding narrow_cell cell
 loop-p-preserved c =
     let args = c.args in
     let loop = c.loop-p in
-    filled_more 0 (narrow_cell args.table.now args.x) 8 loop.row-1 loop.p _ loop.invariant (omega arith) (and_mask _ 8)
+    filled_more 0 (narrow_cell args.table.now args.x) 8 loop.row loop.p _ loop.invariant (omega arith) (and_mask _ 8)
 
 pub returns : goal.returns
 unfolding narrow_row
 returns c =
     let args = c.args in
     let loop = c.loop-p in
-    filled_all 0 (narrow_cell args.table.now args.x) 8 loop.row-1 loop.p loop.invariant (omega arith)
+    filled_all 0 (narrow_cell args.table.now args.x) 8 loop.row loop.p loop.invariant (omega arith)

@@ -12,7 +12,8 @@ use Rattle.records.proofs.read.Goals as goal
 pub returns-then-n-ne0 : goal.returns-then-n-ne0
 returns-then-n-ne0 c =
     let args = c.args in
-    odd args.states args.s.now c.clear.ensures c.if-n-ne0.true
+    let a = odd args.states args.s.now c.clear.ensures c.if-n-ne0.true in
+    record { answer = a.0; table = a.1 }
 
 pub loop-i-init : goal.loop-i-init
 loop-i-init c =
@@ -25,42 +26,32 @@ record_at-r-requires c = omega (arith, div-mul-le_self (length c.args.s.now) 4)
 pub add-step-requires : goal.add-step-requires
 add-step-requires c =
     let loop = c in
-    let start = loop in
     subst⁻¹ Sized c.record_at-r.ensures (record_sized start.args.states start.args.s.now loop.loop-i.i start.requires)
-
-turn : (c : tie.After-add invariant-loop decreases-loop)
-    → Turned c.args.states
-    c.args.s.now
-    c.add-step.new.0 c.add-step.result c.loop-i.i
-turn c =
-    let loop = c in
-    let start = loop in
-    turned start.args.states start.args.s.now start.requires loop.loop-i.invariant c.loop-i-test.true
-    c.record_at-r.ensures c.add-step.ensures.0 c.add-step.ensures.1
 
 pub returns-in_default : goal.returns-in_default
 returns-in_default c =
     let added = c in
     let loop = added in
     let args = loop.args in
-    stopped args.states args.s.now (turn added) loop.if-n-ne0.false c.in_default.is c.stop_of.ensures
+    let a = stopped args.states args.s.now (turned c.args.states c.args.s.now c.requires c.loop-i.invariant c.loop-i-test.true c.record_at-r.ensures c.add-step.ensures.step c.add-step.ensures.table) loop.if-n-ne0.false c.in_default.is c.stop_of.ensures in
+    record { answer = a.0; table = a.1 }
 
 pub loop-i-preserved : goal.loop-i-preserved
 loop-i-preserved c =
     let added = c in
     let args = added.args in
-    went_on args.states args.s.now (turn added) c.in-On.is
+    went_on args.states args.s.now (turned c.args.states c.args.s.now c.requires c.loop-i.invariant c.loop-i-test.true c.record_at-r.ensures c.add-step.ensures.step c.add-step.ensures.table) c.in-On.is
 
 pub returns-then-head-eq16 : goal.returns-then-head-eq16
 returns-then-head-eq16 c =
     let loop = c in
-    let start = loop in
-    no_start start.args.states start.args.s.now loop.if-n-ne0.false start.requires loop.loop-i.invariant c.loop-i-test.false
-    c.if-head-eq16.true
+    let a = no_start start.args.states start.args.s.now loop.if-n-ne0.false start.requires loop.loop-i.invariant c.loop-i-test.false
+    c.if-head-eq16.true in
+    record { answer = a.0; table = a.1 }
 
 pub returns : goal.returns
 returns c =
     let loop = c in
-    let start = loop in
-    good_file start.args.states start.args.s.now loop.if-n-ne0.false start.requires loop.loop-i.invariant c.loop-i-test.false
-    c.if-head-eq16.false
+    let a = good_file start.args.states start.args.s.now loop.if-n-ne0.false start.requires loop.loop-i.invariant c.loop-i-test.false
+    c.if-head-eq16.false in
+    record { answer = a.0; table = a.1 }
