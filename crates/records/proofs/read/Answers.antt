@@ -26,7 +26,7 @@ record_at-r-requires c = omega (arith, div-mul-le_self (length c.args.s.now) 4)
 pub add-step-requires : goal.add-step-requires
 add-step-requires c =
     let loop = c in
-    subst⁻¹ Sized c.record_at-r.ensures (record_sized start.args.states start.args.s.now loop.loop-i.i start.requires)
+    subst⁻¹ Sized c.record_at-r.ensures (record_sized loop.args.states loop.args.s.now loop.loop-i.i loop.requires)
 
 pub returns-in_default : goal.returns-in_default
 returns-in_default c =
@@ -45,13 +45,13 @@ loop-i-preserved c =
 pub returns-then-head-eq16 : goal.returns-then-head-eq16
 returns-then-head-eq16 c =
     let loop = c in
-    let a = no_start start.args.states start.args.s.now loop.if-n-ne0.false start.requires loop.loop-i.invariant c.loop-i-test.false
+    let a = no_start loop.args.states loop.args.s.now loop.if-n-ne0.false loop.requires loop.loop-i.invariant c.loop-i-test.false
     c.if-head-eq16.true in
     record { answer = a.0; table = a.1 }
 
 pub returns : goal.returns
 returns c =
     let loop = c in
-    let a = good_file start.args.states start.args.s.now loop.if-n-ne0.false start.requires loop.loop-i.invariant c.loop-i-test.false
+    let a = good_file loop.args.states loop.args.s.now loop.if-n-ne0.false loop.requires loop.loop-i.invariant c.loop-i-test.false
     c.if-head-eq16.false in
     record { answer = a.0; table = a.1 }

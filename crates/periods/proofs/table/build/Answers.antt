@@ -1,5 +1,4 @@
 -- `table::build` meets its contract. The loop's invariant: the candidates of the word and then the entries from i on give the whole table. Assumes nothing.
-use mathlib.Core.List.{[]}
 use Prim.Native.Nat.{◌-◌}
 use native.Mathlib.Omega.{arith}
 use Rattle.periods.proofs.Candidates.{word_entry}
@@ -14,19 +13,23 @@ pub returns-in_default : goal.returns-in_default
 returns-in_default c = build_full _ _ _ _ _ c.loop-more.invariant.1 c.in_default.is c.expand.ensures
 
 pub returns-then-i-more : goal.returns-then-i-more
-returns-then-i-more c = build_end _ _ _ _ (build_on _ _ _ _ _ c.loop-more.invariant.1 c.in-Ended.is c.expand.ensures c.expand.auto.links c.expand.auto.contexts.0 c.expand.auto.1.1.0) c.if-i-more.true
+returns-then-i-more c = build_end _ _ _ _ (build_on _ _ _ _ _ c.loop-more.invariant.1 c.in-Ended.is c.expand.ensures c.expand.auto.links c.expand.auto.contexts c.expand.auto.chains) c.if-i-more.true
 
 pub word_at-word-requires : goal.word_at-word-requires
 word_at-word-requires c =
-    let ready = (build_on _ _ _ _ _ c.loop-more.invariant.1 c.in-Ended.is c.expand.ensures c.expand.auto.links c.expand.auto.contexts.0 c.expand.auto.1.1.0).ready.roomy in
+    let ready = (build_on _ _ _ _ _ c.loop-more.invariant.1 c.in-Ended.is c.expand.ensures c.expand.auto.links c.expand.auto.contexts c.expand.auto.chains).ready.roomy in
     (omega (arith, ready.within, ready.small), omega (arith, ready.within, ready.links_fit), omega (arith, ready.within, ready.contexts_fit))
 
 pub overflow_add-i : goal.overflow_add-i
-overflow_add-i c = omega (arith, (word-at-requires c ([], ([], tt))).0)
+overflow_add-i c =
+    let ready = (build_on _ _ _ _ _ c.loop-more.invariant.1 c.in-Ended.is c.expand.ensures c.expand.auto.links c.expand.auto.contexts c.expand.auto.chains).ready.roomy in
+    omega (arith, ready.within, ready.small)
 
 pub loop-more-smaller : goal.loop-more-smaller
-loop-more-smaller c = omega (arith, (word-at-requires c ([], ([], tt))).0)
+loop-more-smaller c =
+    let ready = (build_on _ _ _ _ _ c.loop-more.invariant.1 c.in-Ended.is c.expand.ensures c.expand.auto.links c.expand.auto.contexts c.expand.auto.chains).ready.roomy in
+    omega (arith, ready.within, ready.small)
 
 pub loop-more-preserved : goal.loop-more-preserved
 loop-more-preserved c =
-    (omega (arith, c.word_at-word.ensures.0), build_next _ _ _ _ (build_on _ _ _ _ _ c.loop-more.invariant.1 c.in-Ended.is c.expand.ensures c.expand.auto.links c.expand.auto.contexts.0 c.expand.auto.1.1.0) c.if-i-more.false (word_entry _ _ _ c.word_at-word.ensures.0 c.word_at-word.ensures.1 c.word_at-word.ensures.2))
+    (omega (arith, c.word_at-word.ensures.0), build_next _ _ _ _ (build_on _ _ _ _ _ c.loop-more.invariant.1 c.in-Ended.is c.expand.ensures c.expand.auto.links c.expand.auto.contexts c.expand.auto.chains) c.if-i-more.false (word_entry _ _ _ c.word_at-word.ensures.0 c.word_at-word.ensures.1 c.word_at-word.ensures.2))

@@ -37,7 +37,7 @@ loop-rest-preserved c =
     let loop = c.loop-rest in
     let called = c.offer in (
       rest_half loop.invariant.0,
-      loop_on _ _ _ _ _ loop.invariant.1 (rest_low loop.invariant.0 (omega arith)) (state_some _ _ (rest_odd loop.invariant.0 c.if-rest-eq0.false) c.period_link-link.ensures) c.in-Ended.is called.ensures called.auto.links called.auto.contexts.0 called.auto.1.1.0,
+      loop_on _ _ _ _ _ loop.invariant.1 (rest_low loop.invariant.0 (omega arith)) (state_some _ _ (rest_odd loop.invariant.0 c.if-rest-eq0.false) c.period_link-link.ensures) c.in-Ended.is called.ensures called.auto.links called.auto.contexts called.auto.chains,
     )
 
 pub returns : goal.returns

@@ -31,7 +31,7 @@ unfolding by_letter
 loop-x-preserved c =
     let called = c.by_letter in (
       search rules,
-      loop_on _ _ _ _ _ c.loop-x.invariant.1 (omega arith) (ap at_letter c.step-by.ensures) c.in-Ended.is called.ensures called.auto.links called.auto.contexts.0 called.auto.1.1.0,
+      loop_on _ _ _ _ _ c.loop-x.invariant.1 (omega arith) (ap at_letter c.step-by.ensures) c.in-Ended.is called.ensures called.auto.links called.auto.contexts called.auto.chains,
     )
 
 pub returns : goal.returns
