@@ -1,0 +1,75 @@
+-- `search` meets its contract. The loops' invariants: the pairs that are left give what all give, and the tests are at most as many as the pairs passed. Assumes nothing.
+use Rattle.bits.specs.Fields.{link_state}
+use borrow.Author.Tests.{ne_eqb, not-true, not-false}
+use Rattle.lassos.proofs.Pairs.{begin, pass_stem, enter, pass_period, leave, finish, tested, rejects, next_row, pairs_few}
+use Rattle.lassos.specs.Pairs.{meeting}
+use lib.ListN.{length, get_or}
+use native.Mathlib.Omega.{arith}
+use mathlib.Core.Bool.{true}
+use Prim.Native.Nat.{◌-◌}
+use mathlib.Core.Path.{refl, sym, ◌∙◌}
+use borrow.Author.Rules.{rules}
+use Rattle.lassos.proofs.search.Goals as goal
+
+pub search-init : goal.search-init
+search-init c =
+    let start = c in
+    (search rules, search rules, begin start.args.stems.now start.args.sets.now start.args.s start.args.target start.args.links.now start.args.before)
+
+pub search-preserved-then-not-fits : goal.search-preserved-then-not-fits
+search-preserved-then-not-fits c =
+    let start = c in
+    let outer = c.search in
+    (search rules, omega (arith, next_row outer.u (length start.args.links.now)), pass_stem start.args.stems.now start.args.sets.now start.args.s start.args.target start.args.links.now start.args.before outer.u (search rules) (sym c.fits2.ensures ∙ not-true c.fits2.result c.if-not-fits.true) outer.invariant.2)
+
+pub loop-v-init : goal.loop-v-init
+loop-v-init c =
+    let start = c in
+    let outer = c.search in
+    (search rules, search rules, search rules, refl, sym c.fits2.ensures ∙ not-false c.fits2.result c.if-not-fits.false, enter start.args.stems.now start.args.sets.now start.args.s start.args.target start.args.links.now start.args.before outer.u (search rules) outer.invariant.2)
+
+shared_slice_read_link_state :
+    tie.Need-shared-slice-read-link-state invariant-loop decreases-loop invariant-search decreases-search
+shared_slice_read_link_state c = search rules
+
+pub loop-v-preserved-then-link_state-s : goal.loop-v-preserved-then-link_state-s
+loop-v-preserved-then-link_state-s c =
+    let start = c in
+    let inner = c.loop-v in
+    (inner.invariant.0, search rules, search rules, refl, inner.invariant.4, pass_period start.args.stems.now start.args.sets.now start.args.s start.args.target start.args.links.now start.args.before c.search.u inner.v (search rules) (ne_eqb (link_state (get_or start.args.links.now inner.v 0)) start.args.s (λ e. c.if-link_state-s.true (c.link_state.ensures ∙ e))) inner.invariant.5)
+
+pub overflow_add-tests : goal.overflow_add-tests
+overflow_add-tests c =
+    let start = c in
+    let inner = c.loop-v in
+    omega (arith, inner.invariant.2, start.requires.tests, start.requires.periods, pairs_few start.requires c.search.u (omega arith))
+
+shared_slice_read_accepted :
+    tie.Need-shared-slice-read-accepted invariant-loop decreases-loop invariant-search decreases-search
+shared_slice_read_accepted c = search rules
+
+pub loop-v-preserved : goal.loop-v-preserved
+unfolding meeting
+loop-v-preserved c =
+    let start = c in
+    let inner = c.loop-v in
+    (inner.invariant.0, search rules, search rules, refl, inner.invariant.4, tested start.args.stems.now start.args.sets.now start.args.s start.args.target start.args.links.now start.args.before c.search.u inner.v (search rules) inner.invariant.4 (sym c.link_state.ensures ∙ c.if-link_state-s.false) inner.invariant.5 (sym c.accepted.ensures ∙ not-false c.accepted.result c.if-not-accepted.false))
+
+pub search-preserved : goal.search-preserved
+search-preserved c =
+    let start = c in
+    let inner = c.loop-v in
+    let u = c.search.u in
+    (search rules, omega (arith, next_row u (length start.args.links.now), inner.invariant.2), leave start.args.stems.now start.args.sets.now start.args.s start.args.target start.args.links.now start.args.before u inner.v (search rules) inner.invariant.5)
+
+pub returns-then-u-stems : goal.returns-then-u-stems
+returns-then-u-stems c =
+    let start = c in
+    finish start.args.stems.now start.args.sets.now start.args.s start.args.target start.args.links.now start.args.before c.search.u (search rules) c.search.invariant.2
+
+pub returns-then-not-accepted : goal.returns-then-not-accepted
+unfolding meeting
+returns-then-not-accepted c =
+    let start = c in
+    let inner = c.loop-v in
+    rejects start.args.stems.now start.args.sets.now start.args.s start.args.target start.args.links.now start.args.before c.search.u inner.v (search rules) inner.invariant.4 (sym c.link_state.ensures ∙ c.if-link_state-s.false) inner.invariant.5 (sym c.accepted.ensures ∙ not-true c.accepted.result c.if-not-accepted.true)

@@ -1,0 +1,102 @@
+-- `spelling::write` meets its contract. The loop's invariant: the word of i and what is written after it are the whole word. Assumes nothing.
+use native.Mathlib.Nat.{le_of_eq}
+use Rattle.growth.specs.Lent.{over}
+use borrow.Rule.Slice.PartMut.{put_mid, mid_len}
+use Rattle.spelling.proofs.Back.{put_back, put_front}
+use lib.Seq.{length-take-le}
+use lib.ListN.{take}
+use Rattle.spelling.proofs.Chain.{step, spelled_top, spelled_length, spelled_word}
+use mathlib.Core.Logic.{inr}
+use mathlib.Core.Path.{◌≡◌, sym, ap, ap₂, ◌∙◌}
+use mathlib.Core.List.{List, [], ◌∷◌, ◌++◌, append-nil, append_assoc}
+use lib.ListN.{drop, drop_of_length-le}
+use native.Mathlib.Omega.{arith}
+use Rattle.spelling.proofs.Chain.{spelled}
+use borrow.Author.Rules.{rules}
+use Prim.Native.Nat.{ℕ, ◌-◌}
+use lib.ListN.{length}
+use Rattle.spelling.proofs.write.Goals as goal
+
+pub slice_bounds-prefix-end : goal.slice_bounds-prefix-end
+slice_bounds-prefix-end c =
+    let start = c in
+    let word = spelled_word start.args.links start.args.table.now start.requires.backward start.args.entry start.requires.in_bounds in
+    omega (arith, ap length word, spelled_length start.args.links start.args.table.now start.args.entry, c.letters-n.ensures)
+
+pub loop-i-init : goal.loop-i-init
+loop-i-init c =
+    let start = c in
+    let n = c.letters-n.result in
+    let word = spelled_word start.args.links start.args.table.now start.requires.backward start.args.entry start.requires.in_bounds in
+    let same : n ≡ length (spelled start.args.links start.args.table.now start.args.entry) = c.letters-n.ensures ∙ sym (ap length word) in
+    let long : length (take (n - 0) start.args.out.now) ≡ n = length-take-le (n - 0) start.args.out.now (omega (arith, same, spelled_length start.args.links start.args.table.now start.args.entry)) ∙ omega arith in
+    (c.top-end.ensures, inr start.requires.in_bounds, long, same, same, omega arith, ap (λ (z : List ℕ). spelled start.args.links start.args.table.now start.args.entry ++ z) (drop_of_length-le (take (n - 0) start.args.out.now) (le_of_eq long)) ∙ append-nil (spelled start.args.links start.args.table.now start.args.entry))
+
+pub offset_bounds-table-i : goal.offset_bounds-table-i
+offset_bounds-table-i c =
+    let loop = c.loop-i in
+    let start = c in
+    let up = step start.args.links start.args.table.now start.requires.backward loop.invariant.1 (λ e. c.loop-i-test.true (e ∙ sym loop.invariant.0)) in
+    omega (arith, up.low, start.requires.backward.short)
+
+pub bounds-table-i : goal.bounds-table-i
+bounds-table-i c =
+    let loop = c.loop-i in
+    let start = c in
+    let up = step start.args.links start.args.table.now start.requires.backward loop.invariant.1 (λ e. c.loop-i-test.true (e ∙ sym loop.invariant.0)) in
+    up.low
+
+pub overflow_sub-last : goal.overflow_sub-last
+overflow_sub-last c =
+    let loop = c.loop-i in
+    let start = c in
+    let up = step start.args.links start.args.table.now start.requires.backward loop.invariant.1 (λ e. c.loop-i-test.true (e ∙ sym loop.invariant.0)) in
+    omega (arith, up.count)
+
+pub put_last-requires : goal.put_last-requires
+put_last-requires c =
+    let loop = c.loop-i in
+    let start = c in
+    let up = step start.args.links start.args.table.now start.requires.backward loop.invariant.1 (λ e. c.loop-i-test.true (e ∙ sym loop.invariant.0)) in
+    omega (arith, up.count, mid_len (loop.free - 1) loop.free loop.prefix (omega arith))
+
+pub loop-i-smaller : goal.loop-i-smaller
+loop-i-smaller c =
+    let loop = c.loop-i in
+    let start = c in
+    let up = step start.args.links start.args.table.now start.requires.backward loop.invariant.1 (λ e. c.loop-i-test.true (e ∙ sym loop.invariant.0)) in
+    omega (arith, up.count)
+
+pub loop-i-preserved : goal.loop-i-preserved
+loop-i-preserved c =
+    let loop = c.loop-i in
+    let start = c in
+    let up = step start.args.links start.args.table.now start.requires.backward loop.invariant.1 (λ e. c.loop-i-test.true (e ∙ sym loop.invariant.0)) in
+    let x = c.letter.result in
+    let rest = spelled start.args.links start.args.table.now c.parent-i.result in
+    let same : rest ++ (x ∷ []) ≡ spelled start.args.links start.args.table.now loop.i =
+    ap₂ (λ (p y : ℕ). spelled start.args.links start.args.table.now p ++ (y ∷ [])) c.parent-i.ensures c.letter.ensures ∙ sym up.word in
+    let count : loop.free - 1 ≡ length rest = rw c.parent-i.ensures (omega (arith, up.count)) in (
+      loop.invariant.0,
+      rw c.parent-i.ensures up.up,
+      search rules,
+      loop.invariant.3,
+      count,
+      omega arith,
+      ap (λ (z : List ℕ). rest ++ drop (loop.free - 1) (put_mid (loop.free - 1) (loop.free - (loop.free - 1)) loop.prefix z)) c.put_last.ensures
+          ∙ ap (λ (z : List ℕ). rest ++ z) (put_back loop.prefix loop.free x (omega (arith, up.count)) (omega arith))
+          ∙ sym (append_assoc rest (x ∷ []) (drop loop.free loop.prefix))
+          ∙ ap (λ (z : List ℕ). z ++ drop loop.free loop.prefix) same ∙ loop.invariant.6,
+    )
+
+pub returns : goal.returns
+returns c =
+    let loop = c.loop-i in
+    let start = c in
+    let n = c.letters-n.result in
+    let top = spelled_top start.args.links start.args.table.now (c.loop-i-test.false ∙ loop.invariant.0) in
+    let word = spelled_word start.args.links start.args.table.now start.requires.backward start.args.entry start.requires.in_bounds in
+    let none : loop.free ≡ 0 = loop.invariant.4 ∙ ap length top in
+    let whole : loop.prefix ≡ spelled start.args.links start.args.table.now start.args.entry =
+    sym (ap₂ (λ (w : List ℕ) (k : ℕ). w ++ drop k loop.prefix) top none) ∙ loop.invariant.6 in
+    record { letters = c.letters-n.ensures; bytes = put_front n start.args.out.now loop.prefix (sym loop.invariant.2) ∙ ap (λ (w : List ℕ). over w start.args.out.now) (whole ∙ word) }
