@@ -1,6 +1,5 @@
 -- `judge` meets its contract. Assumes nothing.
 use mathlib.Core.Path.{ap, ◌∙◌}
-use borrow.Author.Tests.{not-true, not-false}
 use Rattle.loading.specs.declared.Outset.TheVariants.{Stops}
 use Rattle.loading.proofs.Judged.{model_refused, rule_refused, lacks, goes}
 use Rattle.loading.proofs.judge.Goals as goal
@@ -18,10 +17,10 @@ pub returns-then-not-enough : goal.returns-then-not-enough
 returns-then-not-enough c = let rule = c in
     let model = rule in
     let args = model.args in
-    lacks args.rule args.enough model.in-Good.is rule.in-Good-rule.is (not-true _ c.if-not-enough.true)
+    lacks args.rule args.enough model.in-Good.is rule.in-Good-rule.is c.if-not-enough.true
 
 pub returns : goal.returns
 returns c = let rule = c in
     let model = rule in
     let args = model.args in
-    goes args.rule args.enough model.in-Good.is rule.in-Good-rule.is (not-false _ c.if-not-enough.false)
+    goes args.rule args.enough model.in-Good.is rule.in-Good-rule.is c.if-not-enough.false
