@@ -1,6 +1,6 @@
 -- `search` meets its contract. The loops' invariants: the pairs that are left give what all give, and the tests are at most as many as the pairs passed. Assumes nothing.
 use Rattle.bits.specs.Fields.{link_state}
-use borrow.Author.Tests.{ne_eqb, not-true, not-false}
+use borrow.Author.Tests.{ne_eqb}
 use Rattle.lassos.proofs.Pairs.{begin, pass_stem, enter, pass_period, leave, finish, tested, rejects, next_row, pairs_few}
 use Rattle.lassos.specs.Pairs.{meeting}
 use lib.ListN.{length, get_or}
@@ -20,17 +20,13 @@ pub search-preserved-then-not-fits : goal.search-preserved-then-not-fits
 search-preserved-then-not-fits c =
     let start = c in
     let outer = c.search in
-    (search rules, omega (arith, next_row outer.u (length start.args.links.now)), pass_stem start.args.stems.now start.args.sets.now start.args.s start.args.target start.args.links.now start.args.before outer.u (search rules) (sym c.fits2.ensures ∙ not-true c.fits2.result c.if-not-fits.true) outer.invariant.2)
+    (search rules, omega (arith, next_row outer.u (length start.args.links.now)), pass_stem start.args.stems.now start.args.sets.now start.args.s start.args.target start.args.links.now start.args.before outer.u (search rules) (sym c.fits.ensures ∙ c.if-not-fits.true) outer.invariant.2)
 
 pub loop-v-init : goal.loop-v-init
 loop-v-init c =
     let start = c in
     let outer = c.search in
-    (search rules, search rules, search rules, refl, sym c.fits2.ensures ∙ not-false c.fits2.result c.if-not-fits.false, enter start.args.stems.now start.args.sets.now start.args.s start.args.target start.args.links.now start.args.before outer.u (search rules) outer.invariant.2)
-
-shared_slice_read_link_state :
-    tie.Need-shared-slice-read-link-state invariant-loop decreases-loop invariant-search decreases-search
-shared_slice_read_link_state c = search rules
+    (search rules, search rules, search rules, refl, sym c.fits.ensures ∙ c.if-not-fits.false, enter start.args.stems.now start.args.sets.now start.args.s start.args.target start.args.links.now start.args.before outer.u (search rules) outer.invariant.2)
 
 pub loop-v-preserved-then-link_state-s : goal.loop-v-preserved-then-link_state-s
 loop-v-preserved-then-link_state-s c =
@@ -44,16 +40,12 @@ overflow_add-tests c =
     let inner = c.loop-v in
     omega (arith, inner.invariant.2, start.requires.tests, start.requires.periods, pairs_few start.requires c.search.u (omega arith))
 
-shared_slice_read_accepted :
-    tie.Need-shared-slice-read-accepted invariant-loop decreases-loop invariant-search decreases-search
-shared_slice_read_accepted c = search rules
-
 pub loop-v-preserved : goal.loop-v-preserved
 unfolding meeting
 loop-v-preserved c =
     let start = c in
     let inner = c.loop-v in
-    (inner.invariant.0, search rules, search rules, refl, inner.invariant.4, tested start.args.stems.now start.args.sets.now start.args.s start.args.target start.args.links.now start.args.before c.search.u inner.v (search rules) inner.invariant.4 (sym c.link_state.ensures ∙ c.if-link_state-s.false) inner.invariant.5 (sym c.accepted.ensures ∙ not-false c.accepted.result c.if-not-accepted.false))
+    (inner.invariant.0, search rules, search rules, refl, inner.invariant.4, tested start.args.stems.now start.args.sets.now start.args.s start.args.target start.args.links.now start.args.before c.search.u inner.v (search rules) inner.invariant.4 (sym c.link_state.ensures ∙ c.if-link_state-s.false) inner.invariant.5 (sym c.accepted.ensures ∙ c.if-not-accepted.false))
 
 pub search-preserved : goal.search-preserved
 search-preserved c =
@@ -72,4 +64,4 @@ unfolding meeting
 returns-then-not-accepted c =
     let start = c in
     let inner = c.loop-v in
-    rejects start.args.stems.now start.args.sets.now start.args.s start.args.target start.args.links.now start.args.before c.search.u inner.v (search rules) inner.invariant.4 (sym c.link_state.ensures ∙ c.if-link_state-s.false) inner.invariant.5 (sym c.accepted.ensures ∙ not-true c.accepted.result c.if-not-accepted.true)
+    rejects start.args.stems.now start.args.sets.now start.args.s start.args.target start.args.links.now start.args.before c.search.u inner.v (search rules) inner.invariant.4 (sym c.link_state.ensures ∙ c.if-link_state-s.false) inner.invariant.5 (sym c.accepted.ensures ∙ c.if-not-accepted.true)
