@@ -75,9 +75,9 @@ pub fn decide(
     period: &mut [u8],
 ) -> Answer
     ensures { Decided model.now rule.now stem_room period_room
-        (record { smallest = smallest.entry.now; largest = largest.old; links = links.old; contexts = contexts.old; stem = stem.old; period = period.old })
+        (record { smallest = smallest.old; largest = largest.old; links = links.old; contexts = contexts.old; stem = stem.old; period = period.old })
         result
-        (record { smallest = smallest.exit.now; largest = largest.new; links = links.new; contexts = contexts.new; stem = stem.new; period = period.new }) }
+        (record { smallest = smallest.new; largest = largest.new; links = links.new; contexts = contexts.new; stem = stem.new; period = period.new }) }
 {
     let sizes = Sizes {
         smallest: smallest.len(),

@@ -94,10 +94,10 @@ fn tell(
     period: &mut [u8],
 ) -> Ending
     requires { Prepared (aut_of (cell model.now) model_head) (aut_of (cell rule.now) rule_head) stem_room period_room
-        (record { smallest = smallest.now; largest = largest.old; links = links.old; contexts = contexts.old; stem = stem.old; period = period.old }) }
+        (record { smallest = smallest.old; largest = largest.old; links = links.old; contexts = contexts.old; stem = stem.old; period = period.old }) }
     ensures { Told (walk (aut_of (cell model.now) model_head) (aut_of (cell rule.now) rule_head) stem_room period_room)
-        (record { smallest = smallest.entry.now; largest = largest.old; links = links.old; contexts = contexts.old; stem = stem.old; period = period.old })
-        (record { smallest = smallest.exit.now; largest = largest.new; links = links.new; contexts = contexts.new; stem = stem.new; period = period.new })
+        (record { smallest = smallest.old; largest = largest.old; links = links.old; contexts = contexts.old; stem = stem.old; period = period.old })
+        (record { smallest = smallest.new; largest = largest.new; links = links.new; contexts = contexts.new; stem = stem.new; period = period.new })
         result }
 {
     let first = stems::grow(
@@ -164,10 +164,10 @@ pub fn walk(
     period: &mut [u8],
 ) -> Ending
     requires { Prepared (aut_of (cell model.now) model_head) (aut_of (cell rule.now) rule_head) stem_room period_room
-        (record { smallest = smallest.now; largest = largest.old; links = links.old; contexts = contexts.old; stem = stem.old; period = period.old }) }
+        (record { smallest = smallest.old; largest = largest.old; links = links.old; contexts = contexts.old; stem = stem.old; period = period.old }) }
     ensures { Concluded (walk (aut_of (cell model.now) model_head) (aut_of (cell rule.now) rule_head) stem_room period_room) period_room
-        (record { smallest = smallest.entry.now; largest = largest.old; links = links.old; contexts = contexts.old; stem = stem.old; period = period.old })
-        (record { smallest = smallest.exit.now; largest = largest.new; links = links.new; contexts = contexts.new; stem = stem.new; period = period.new })
+        (record { smallest = smallest.old; largest = largest.old; links = links.old; contexts = contexts.old; stem = stem.old; period = period.old })
+        (record { smallest = smallest.new; largest = largest.new; links = links.new; contexts = contexts.new; stem = stem.new; period = period.new })
         result }
 {
     let ending = tell(

@@ -1,0 +1,29 @@
+-- `walk` meets its contract. The links and the contexts are lent as exact parts, so what lies beyond is as it came. Assumes nothing.
+use Rattle.search.proofs.Telling.{parts_prepared}
+use Rattle.search.proofs.Clearing.{put_clear}
+use Rattle.search.specs.Ending.{left_by}
+use Prim.Native.Nat.{◌*◌}
+use Rattle.search.proofs.walk.Goals as goal
+
+pub tell-ending-requires : goal.tell-ending-requires
+tell-ending-requires c = parts_prepared c.requires
+
+pub returns : goal.returns
+unfolding left_by
+returns c =
+    let start = c in
+    let args = start.args in
+    let told = c.tell-ending.ensures in
+    let links = put_clear args.period_room args.links.now c.tell-ending.new.links start.requires.links_fit c.tell-ending.auto.links c.clear_links.ensures in
+    let contexts = put_clear (2 * args.period_room) args.contexts.now c.tell-ending.new.contexts start.requires.contexts_fit c.tell-ending.auto.contexts c.clear_contexts.ensures in
+    record {
+      answer = told.answer;
+      left = λ i. record {
+        smallest = told.smallest_left i;
+        largest = told.largest_left i;
+        links = links i;
+        contexts = contexts i;
+        stem = told.stem_left i;
+        period = told.period_left i;
+      };
+    }
