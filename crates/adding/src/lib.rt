@@ -1,5 +1,6 @@
 //! What one record says, and what it adds to what the records before it said.
 #![tactic(auto)]
+
 ghost use Rattle.std.specs.Prelude.{◌⊎◌, ◌≡◌, ◌+◌, ◌*◌, ◌^◌, ◌<◌, max, length};
 ghost use Rattle.bits.specs.Sets.{union};
 ghost use Rattle.adding.specs.Bytes.{kind_i, kind_f, kind_t};

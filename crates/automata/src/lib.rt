@@ -1,5 +1,6 @@
 //! A loaded automaton: a table of sets, by letter and then by state, beside a head; what it does to sets and contexts.
 #![tactic(auto)]
+
 pub mod eight;
 pub mod sixteen;
 

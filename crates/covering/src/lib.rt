@@ -1,5 +1,6 @@
 //! Whether a candidate is covered: a look at entries of its state of A, as many as decide it.
 #![tactic(auto)]
+
 ghost use Rattle.std.specs.Prelude.{◌≡◌, cond, not, [], ◌+◌, ◌-◌, ◌*◌, ◌<◌, ◌≤◌, length, get_or, set};
 ghost use Rattle.bits.specs.Fields.{link_state};
 ghost use Rattle.automata.specs.Loaded.{of_pairs};

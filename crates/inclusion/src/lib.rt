@@ -1,5 +1,6 @@
 //! The entry point: two record files, the room, and six lent buffers.
 #![tactic(auto)]
+
 ghost use Rattle.std.specs.Prelude.{[], ◌∷◌, ◌≡◌};
 ghost use Rattle.records.specs.Faults.{refusal};
 ghost use Rattle.inclusion.specs.declared.Answer.TheVariants.{Refused};

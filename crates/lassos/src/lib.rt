@@ -1,5 +1,6 @@
 //! The lassos of one round: each stem at s with target inside w's, with each period at s, tested in order up to the first rejected one.
 #![tactic(auto)]
+
 ghost use Rattle.std.specs.Prelude.{◌≡◌, cond, ◌+◌, ◌*◌, ◌<◌, ◌≤◌, eqb, length, get_or, set};
 ghost use Rattle.bits.specs.Sets.{meets};
 ghost use Rattle.bits.specs.Fields.{stem_target, link_state};

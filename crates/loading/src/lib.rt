@@ -1,5 +1,6 @@
 //! What comes before the walk: both files are read and judged, and then the room and what is lent.
 #![tactic(auto)]
+
 ghost use Rattle.std.specs.Prelude.{◌≡◌};
 ghost use Rattle.loading.specs.Outset.{long_enough, outset_of, Loads};
 

@@ -1,5 +1,6 @@
 //! The lasso test: is a lasso, given as a stem and a period, accepted by the automaton of a record file?
 #![tactic(auto)]
+
 ghost use Rattle.std.specs.Prelude.{true, ◌≡◌, ◌<◌, length, get_or};
 ghost use Rattle.acceptance.specs.Contexts.{target, context_of};
 ghost use Rattle.automata.specs.Loaded.{cell, aut_of, of_rows};

@@ -1,5 +1,6 @@
 //! One candidate offered to a period table in the lent tables: dropped where it is covered, and else appended where there is room.
 #![tactic(auto)]
+
 ghost use Rattle.std.specs.Prelude.{[], ◌∷◌, ◌≤◌, length};
 ghost use Rattle.bits.specs.Fields.{link_state};
 ghost use Rattle.growth.specs.Grow.{append, offer};

@@ -1,5 +1,6 @@
 //! Record files: read in one pass to a loaded automaton, or refused at the first fault.
 #![tactic(auto)]
+
 ghost use Rattle.std.specs.Prelude.{[], ◌≡◌, ◌+◌, ◌<◌, ◌≤◌, length, take, drop};
 ghost use Rattle.records.specs.Spelled.{table_of};
 ghost use Rattle.records.specs.Faults.{good_records, judged, refusal_of};

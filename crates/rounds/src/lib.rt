@@ -1,6 +1,7 @@
 //! The rounds: for each accepting state s of the model, and each entry of W at s, a period table built afresh and the lassos tested. The counts so
 //! far go with them: p, the most entries that a period table had, and t, the tests made.
 #![tactic(auto)]
+
 ghost use Rattle.std.specs.Prelude.{◌≡◌, true, ◌*◌, ◌^◌, max, ◌<◌, ◌≤◌, length};
 ghost use Rattle.bits.specs.Bits.{bit};
 ghost use Rattle.automata.specs.Loaded.{cell, aut_of};

@@ -1,5 +1,6 @@
 //! The walk on loaded automata and lent tables.
 #![tactic(auto)]
+
 ghost use Rattle.std.specs.Prelude.{◌≡◌, length, replicate};
 ghost use Rattle.automata.specs.Loaded.{cell, aut_of};
 ghost use Rattle.walk.specs.Walk.{walk};

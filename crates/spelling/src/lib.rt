@@ -1,5 +1,6 @@
 //! The word of an entry, of the stems or of the links, read along its parents and stored back to front.
 #![tactic(auto)]
+
 ghost use Rattle.std.specs.Prelude.{◌≡◌, ◌-◌, ◌<◌, ◌≤◌, length, set};
 ghost use Rattle.walk.specs.Words.{top_of, parent_of, letter_of, word_of};
 ghost use Rattle.spelling.specs.Written.{Backward, Written};

@@ -1,5 +1,6 @@
 //! The stem tables U and W (document 01, "The walk", 1 and 2), grown in a lent table.
 #![tactic(auto)]
+
 ghost use Rattle.std.specs.Prelude.{◌≡◌, [], ◌∷◌, ◌^◌, ◌≤◌, ◌<◌, length, get_or, take};
 ghost use Rattle.bits.specs.Fields.{stem_entry};
 ghost use Rattle.automata.specs.Loaded.{cell, aut_of, steps_of};
