@@ -3,7 +3,6 @@ use native.Mathlib.Omega.{arith}
 use mathlib.Core.Path.{refl}
 use Rattle.lassos.proofs.Pairs.{put_more}
 use borrow.Author.Rules.{rules}
-use Prim.Native.Nat.{◌-◌}
 use Rattle.lassos.proofs.put_sets.Goals as goal
 
 pub loop-j-init : goal.loop-j-init

@@ -5,8 +5,6 @@ use Rattle.lassos.proofs.Pairs.{begin, pass_stem, enter, pass_period, leave, fin
 use Rattle.lassos.specs.Pairs.{meeting}
 use lib.ListN.{length, get_or}
 use native.Mathlib.Omega.{arith}
-use mathlib.Core.Bool.{true}
-use Prim.Native.Nat.{◌-◌}
 use mathlib.Core.Path.{refl, sym, ◌∙◌}
 use borrow.Author.Rules.{rules}
 use Rattle.lassos.proofs.search.Goals as goal

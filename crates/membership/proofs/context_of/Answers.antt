@@ -1,6 +1,5 @@
 -- `context_of` meets its contract: the rest of the period makes of the context what the whole period is. Assumes nothing.
 use mathlib.Core.Path.{◌∙◌}
-use Prim.Native.Nat.{◌-◌}
 use native.Mathlib.Omega.{arith}
 use borrow.Author.Rules.{rules}
 use Rattle.automata.specs.Loaded.{of_rows}

@@ -1,5 +1,5 @@
 use mathlib.Core.Path.{◌≡◌}
-use Prim.Native.Nat.{◌≤◌, ◌-◌}
+use Prim.Native.Nat.{◌≤◌}
 use lib.ListN.{length, drop}
 use Rattle.acceptance.specs.Contexts.{longer_all, context_of}
 use Rattle.automata.specs.Loaded.{cell, aut_of, of_rows}

@@ -1,5 +1,4 @@
 -- `good_letters` meets its contract: what the loop has passed, and the good letters of the rest, are those of the word. Assumes nothing.
-use Prim.Native.Nat.{◌-◌}
 use native.Mathlib.Omega.{arith}
 use Rattle.membership.proofs.Lettered.{good_next, good_stop, good_end}
 use Rattle.membership.proofs.good_letters.Goals as goal

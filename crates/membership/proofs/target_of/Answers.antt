@@ -1,6 +1,5 @@
 -- `target_of` meets its contract: the rest of the stem leads on from the set where the whole stem leads to from the first one. Assumes nothing.
 use mathlib.Core.Path.{◌∙◌}
-use Prim.Native.Nat.{◌-◌}
 use native.Mathlib.Omega.{arith}
 use borrow.Author.Rules.{rules}
 use Rattle.membership.proofs.Walked.{moved_turn, moved_end}

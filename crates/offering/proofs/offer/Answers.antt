@@ -1,5 +1,4 @@
 -- `offer` meets its contract: the candidate is covered and nothing changes, or it is appended. Assumes nothing.
-use mathlib.Core.Path.{refl, ◌∙◌}
 use Rattle.covering.proofs.Masks.{covers_state}
 use Rattle.offering.proofs.Offered.{offered_covered, offered_new}
 use Rattle.offering.proofs.offer.Goals as goal

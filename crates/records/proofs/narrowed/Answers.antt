@@ -1,7 +1,6 @@
 -- `records::narrowed` meets its contract: the rows below x are there. Assumes nothing.
 use mathlib.Core.List.{[]}
 use mathlib.Core.Path.{refl}
-use Prim.Native.Nat.{◌-◌}
 use native.Mathlib.Omega.{arith}
 use Rattle.bits.proofs.Values.{filled_none, filled_more, filled_all}
 use Rattle.records.specs.Narrow.{narrow_row, narrow}

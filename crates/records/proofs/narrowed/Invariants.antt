@@ -1,5 +1,4 @@
 use mathlib.Core.List.{[]}
-use Prim.Native.Nat.{◌-◌}
 use Rattle.bits.proofs.Values.{Filled}
 use Rattle.records.specs.Narrow.{narrow_row}
 use Rattle.records.proofs.narrowed.Given as goal

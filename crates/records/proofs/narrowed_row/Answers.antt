@@ -1,6 +1,5 @@
 -- `records::narrowed_row` meets its contract: the sets below p are there. Assumes nothing.
 use mathlib.Core.Path.{refl}
-use Prim.Native.Nat.{◌-◌}
 use native.Mathlib.Omega.{arith}
 use lib.Bits.{and_mask}
 use Rattle.bits.proofs.Values.{filled_none, filled_more, filled_all}

@@ -1,4 +1,3 @@
-use Prim.Native.Nat.{◌-◌}
 use Rattle.bits.proofs.Values.{Filled}
 use Rattle.records.specs.Narrow.{narrow_cell}
 use Rattle.records.proofs.narrowed_row.Given as goal

@@ -1,12 +1,11 @@
 -- `records::read` meets its contract: before record i the table and the head are those of the records before it. Assumes nothing.
 use mathlib.Core.Path.{subst⁻¹}
-use Prim.Native.Nat.{◌-◌}
 use native.Mathlib.Omega.{arith}
 use native.Mathlib.Nat.{div-mul-le_self}
 use lib.ListN.{length}
 use Rattle.adding.specs.Steps.{Sized}
 use Rattle.records.proofs.Says.{record_sized}
-use Rattle.records.proofs.Reading.{begun, odd, no_start, good_file, Turned, turned, went_on, stopped}
+use Rattle.records.proofs.Reading.{begun, odd, no_start, good_file, turned, went_on, stopped}
 use Rattle.records.proofs.read.Goals as goal
 
 pub returns-then-n-ne0 : goal.returns-then-n-ne0

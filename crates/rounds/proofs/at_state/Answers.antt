@@ -4,7 +4,6 @@ use Rattle.rounds.proofs.Onward.{Stopped, onward_begin, onward_next, onward_stop
 use Rattle.walk.specs.Walk.{rounds_at}
 use Rattle.automata.specs.Loaded.{cell, aut_of}
 use native.Mathlib.Omega.{arith}
-use Prim.Native.Nat.{◌-◌}
 use mathlib.Core.Path.{refl, sym, ◌∙◌}
 use borrow.Author.Rules.{rules}
 use lib.ListN.{length}

@@ -3,7 +3,7 @@ use Rattle.rounds.proofs.States.{rounds_count}
 use Rattle.rounds.proofs.Onward.{Stopped, onward_begin, onward_next, onward_stop, onward_done, ready_on, tests_more}
 use Rattle.walk.specs.Walk.{rounds_at, rounds}
 use Rattle.automata.specs.Loaded.{cell, aut_of}
-use Prim.Native.Nat.{◌-◌, ◌≤◌}
+use Prim.Native.Nat.{◌≤◌}
 use native.Mathlib.Omega.{arith}
 use mathlib.Core.Path.{refl}
 use borrow.Author.Rules.{rules}

@@ -1,6 +1,5 @@
 -- `clear_links` meets its contract. The loop's invariant: zeroes up to i, and then what was there. Assumes nothing.
 use Rattle.search.proofs.Clearing.{cleared_none, cleared_more, cleared_all}
-use Prim.Native.Nat.{◌-◌}
 use Rattle.search.proofs.clear_links.Goals as goal
 
 pub loop-i-init : goal.loop-i-init

@@ -3,7 +3,7 @@ use mathlib.Core.List.{◌++◌}
 use lib.ListN.{drop}
 use Rattle.walk.specs.Words.{top_of}
 use Rattle.spelling.proofs.Chain.{Inside, spelled}
-use Prim.Native.Nat.{◌≤◌, ◌-◌}
+use Prim.Native.Nat.{◌≤◌}
 use lib.ListN.{length}
 use Rattle.spelling.proofs.write.Given as goal
 

@@ -4,7 +4,6 @@ use Rattle.growth.proofs.Offering.{gather_on, gather_done}
 use Rattle.stems.specs.Candidates.{at_state, at_letter}
 use Rattle.stems.proofs.Growing.{going_from, going_on, going_full, going_end}
 use borrow.Author.Rules.{rules}
-use Prim.Native.Nat.{◌-◌}
 use Rattle.stems.proofs.by_letter.Goals as goal
 
 pub loop-q-init : goal.loop-q-init

@@ -8,7 +8,6 @@ use Rattle.stems.specs.Candidates.{move_of}
 use Rattle.stems.proofs.Candidates.{by_letter, letters_all}
 use Rattle.stems.proofs.Growing.{going_from, going_on, going_full, going_end}
 use borrow.Author.Rules.{rules}
-use Prim.Native.Nat.{◌-◌}
 use Rattle.stems.proofs.expand.Goals as goal
 
 pub loop-x-init : goal.loop-x-init

@@ -4,7 +4,6 @@ use native.Mathlib.Nat.{sub-zero}
 use Rattle.stems.specs.Stems.{stem_next}
 use Rattle.automata.specs.Loaded.{steps_of}
 use Rattle.stems.proofs.Growing.{take_one, take_none, going_from, going_on, going_full, going_end}
-use Prim.Native.Nat.{◌-◌}
 use Rattle.stems.proofs.take_all.Goals as goal
 
 pub loop-i-init : goal.loop-i-init

@@ -1,5 +1,5 @@
 use mathlib.Core.Path.{◌≡◌}
-use Prim.Native.Nat.{◌≤◌, ◌-◌}
+use Prim.Native.Nat.{◌≤◌}
 use Rattle.automata.specs.Repeated.{paths_over}
 use Rattle.automata.proofs.eight.closure.Given as goal
 

@@ -1,6 +1,5 @@
 -- `eight::leading_into` meets its contract. Assumes nothing.
 use mathlib.Core.Path.{refl, ap, ◌∙◌}
-use Prim.Native.Nat.{◌-◌}
 use native.Mathlib.Omega.{arith}
 use Rattle.bits.specs.Bits.{pack, set_of}
 use Rattle.automata.proofs.Turning.{leads, leading_more, leading_all}

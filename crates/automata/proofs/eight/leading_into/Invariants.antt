@@ -1,5 +1,5 @@
 use mathlib.Core.Path.{◌≡◌}
-use Prim.Native.Nat.{◌≤◌, ◌-◌}
+use Prim.Native.Nat.{◌≤◌}
 use Rattle.bits.specs.Bits.{set_of}
 use Rattle.automata.proofs.Turning.{leads}
 use Rattle.automata.proofs.eight.leading_into.Given as goal

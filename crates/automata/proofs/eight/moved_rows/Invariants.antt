@@ -1,5 +1,5 @@
 use mathlib.Core.Path.{◌≡◌}
-use Prim.Native.Nat.{◌≤◌, ◌-◌}
+use Prim.Native.Nat.{◌≤◌}
 use Rattle.automata.proofs.Moving.{rows_below}
 use Rattle.automata.proofs.eight.moved_rows.Given as goal
 

@@ -1,6 +1,5 @@
 -- `eight::rows_of` meets its contract. Assumes nothing.
 use mathlib.Core.Path.{refl}
-use Prim.Native.Nat.{◌-◌}
 use native.Mathlib.Omega.{arith}
 use Rattle.bits.proofs.Values.{filled_none, filled_more, filled_all}
 use Rattle.automata.proofs.eight.rows_of.Goals as goal

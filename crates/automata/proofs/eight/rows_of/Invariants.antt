@@ -1,4 +1,3 @@
-use Prim.Native.Nat.{◌-◌}
 use Rattle.bits.specs.Pairs.{row}
 use Rattle.bits.proofs.Values.{Filled}
 use Rattle.automata.proofs.eight.rows_of.Given as goal

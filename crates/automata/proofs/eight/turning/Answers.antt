@@ -1,6 +1,5 @@
 -- `eight::turning` meets its contract. Assumes nothing.
 use mathlib.Core.Path.{refl, ap, ◌∙◌}
-use Prim.Native.Nat.{◌-◌}
 use native.Mathlib.Omega.{arith}
 use Rattle.bits.specs.Bits.{pack, set_of}
 use Rattle.bits.specs.Pairs.{row}

@@ -1,5 +1,5 @@
 use mathlib.Core.Path.{◌≡◌}
-use Prim.Native.Nat.{ℕ, ◌≤◌, ◌-◌}
+use Prim.Native.Nat.{ℕ, ◌≤◌}
 use Rattle.automata.specs.Loaded.{listed}
 use Rattle.automata.specs.Repeated.{paths_over}
 use Rattle.automata.proofs.sixteen.closure.Given as goal

@@ -1,6 +1,5 @@
 -- `sixteen::idle` meets its contract. Assumes nothing.
 use mathlib.Core.Path.{refl}
-use Prim.Native.Nat.{◌-◌}
 use native.Mathlib.Omega.{arith}
 use Rattle.bits.proofs.Values.{filled_none, filled_more}
 use Rattle.acceptance.specs.Contexts.{idle}

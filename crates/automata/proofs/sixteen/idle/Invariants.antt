@@ -1,4 +1,4 @@
-use Prim.Native.Nat.{◌-◌, ◌*◌, ◌^◌}
+use Prim.Native.Nat.{◌*◌, ◌^◌}
 use Rattle.bits.specs.Bits.{bit, weight}
 use Rattle.bits.proofs.Values.{Filled}
 use Rattle.automata.proofs.sixteen.idle.Given as goal

@@ -1,4 +1,3 @@
-use Prim.Native.Nat.{◌-◌}
 use Rattle.bits.specs.Sets.{union, meet}
 use Rattle.bits.specs.Pairs.{row}
 use Rattle.bits.proofs.Values.{Filled}

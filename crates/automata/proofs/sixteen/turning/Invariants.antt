@@ -1,5 +1,5 @@
 use mathlib.Core.Path.{◌≡◌}
-use Prim.Native.Nat.{◌≤◌, ◌-◌}
+use Prim.Native.Nat.{◌≤◌}
 use Rattle.bits.specs.Bits.{set_of}
 use Rattle.automata.specs.Loaded.{listed}
 use Rattle.automata.proofs.Turning.{diagonal}

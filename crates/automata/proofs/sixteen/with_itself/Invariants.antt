@@ -1,4 +1,4 @@
-use Prim.Native.Nat.{◌-◌, ◌^◌}
+use Prim.Native.Nat.{◌^◌}
 use Rattle.bits.specs.Sets.{union}
 use Rattle.bits.specs.Pairs.{row}
 use Rattle.bits.proofs.Values.{Filled}

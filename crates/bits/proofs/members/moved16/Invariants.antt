@@ -1,5 +1,5 @@
 use mathlib.Core.Path.{◌≡◌}
-use Prim.Native.Nat.{◌≤◌, ◌-◌}
+use Prim.Native.Nat.{◌≤◌}
 use Rattle.bits.proofs.Moved.{moved_below}
 use Rattle.bits.proofs.members.moved16.Given as goal
 

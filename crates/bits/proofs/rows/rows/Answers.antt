@@ -1,6 +1,6 @@
 -- `rows::rows` meets its contract: the loop keeps the rows below q. Assumes nothing.
 use mathlib.Core.Path.{refl, ap, ◌∙◌}
-use Prim.Native.Nat.{ℕ, ◌-◌, ◌*◌, ◌/◌, ◌^◌}
+use Prim.Native.Nat.{ℕ, ◌*◌, ◌/◌, ◌^◌}
 use native.Mathlib.Omega.{arith}
 use lib.Bits.{and_mask}
 use Rattle.bits.specs.Bits.{pack}

@@ -1,5 +1,5 @@
 use mathlib.Core.Path.{◌≡◌}
-use Prim.Native.Nat.{◌≤◌, ◌-◌}
+use Prim.Native.Nat.{◌≤◌}
 use Rattle.bits.specs.Bits.{pack}
 use Rattle.bits.proofs.Contained.{full_row}
 use Rattle.bits.proofs.rows.rows.Given as goal

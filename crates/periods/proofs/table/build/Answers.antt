@@ -1,5 +1,4 @@
 -- `table::build` meets its contract. The loop's invariant: the candidates of the word and then the entries from i on give the whole table. Assumes nothing.
-use Prim.Native.Nat.{◌-◌}
 use native.Mathlib.Omega.{arith}
 use Rattle.periods.proofs.Candidates.{word_entry}
 use Rattle.periods.proofs.Taking.{build_start, build_full, build_on, build_end, build_next}

@@ -1,7 +1,6 @@
 -- `table::by_letter` meets its contract. The loop's invariant: what the states from q on give is what all give. Assumes nothing.
 use mathlib.Core.Path.{refl}
 use native.Mathlib.Omega.{arith}
-use Rattle.growth.specs.Grow.{offer}
 use Rattle.periods.specs.Candidates.{at_letter}
 use Rattle.periods.proofs.Candidates.{state_some}
 use Rattle.periods.proofs.Rest.{rest_start, rest_half, rest_low, rest_odd, rest_even, rest_none}

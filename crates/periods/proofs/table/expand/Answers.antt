@@ -1,6 +1,5 @@
 -- `table::expand` meets its contract. The loop's invariant: what the letters from x on give is what all give. Assumes nothing.
 use mathlib.Core.Path.{refl, ap}
-use Prim.Native.Nat.{◌-◌}
 use native.Mathlib.Omega.{arith}
 use Rattle.automata.specs.Loaded.{cell, aut_of}
 use Rattle.periods.specs.declared.table.Move.{Move}

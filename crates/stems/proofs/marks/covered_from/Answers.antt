@@ -1,6 +1,6 @@
 -- `marks::covered_from` meets its contract. The loop's invariant: the first j of the eight are there. Assumes nothing.
 use mathlib.Core.Path.{refl, ap, ◌∙◌}
-use Prim.Native.Nat.{ℕ, ◌+◌, ◌-◌}
+use Prim.Native.Nat.{ℕ, ◌+◌}
 use native.Mathlib.Omega.{arith}
 use Rattle.bits.specs.Bits.{pack, set_of}
 use Rattle.stems.specs.Stems.{target_covers}

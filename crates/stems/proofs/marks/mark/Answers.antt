@@ -2,7 +2,6 @@
 use native.Mathlib.Nat.{le_antisymm}
 use Rattle.stems.proofs.Flags.{raised_none, raised_more, raised_all}
 use borrow.Author.Rules.{rules}
-use Prim.Native.Nat.{◌-◌}
 use Rattle.stems.proofs.marks.mark.Goals as goal
 
 pub loop-g-init : goal.loop-g-init
