@@ -1,5 +1,6 @@
 //! What a host in C calls.
 #![tactic(auto)]
+
 ghost use Rattle.std.specs.Prelude.{◌≡◌};
 ghost use Rattle.inclusion.specs.Decided.{number_of};
 ghost use Rattle.membership.specs.Test.{host_number};
@@ -81,9 +82,9 @@ pub extern "C" fn wickerbell_decide(
     row: &mut [u64],
 ) -> u32
     ensures { RowDecided model.now rule.now stem_room period_room
-        (record { smallest = smallest.entry.now; largest = largest.old; links = links.old; contexts = contexts.old; stem = stem.old; period = period.old })
+        (record { smallest = smallest.old; largest = largest.old; links = links.old; contexts = contexts.old; stem = stem.old; period = period.old })
         row.old result
-        (record { smallest = smallest.exit.now; largest = largest.new; links = links.new; contexts = contexts.new; stem = stem.new; period = period.new })
+        (record { smallest = smallest.new; largest = largest.new; links = links.new; contexts = contexts.new; stem = stem.new; period = period.new })
         row.new }
 {
     let room = room_with(row, stem_room);

@@ -1,92 +1,99 @@
 //! The program: reads model.rec and rule.rec where it is run, decides with S = 4,096 and P = 2,048, and prints the answer.
 #![tactic(auto)]
+
 ghost use Rattle.std.specs.Prelude.{◌≤◌, length};
 
 use inclusion::Answer;
-use libc::STDOUT_FILENO;
 use records::Refusal;
 use search::Counts;
+use std::fs::File;
+use std::io;
+use std::io::Read;
+use std::rt::Files;
 
 // As many bytes of a file as fit; none of a file that cannot be opened.
-fn read_file(path: &[u8], buffer: &mut [u8]) -> usize
+fn read_file(rt: &impl Files, path: &str, buffer: &mut [u8]) -> usize
     ensures { result ≤ length buffer.new }
 {
-    let file = os::open_read(path);
-    if file < 0 {
-        return 0;
+    match File::open(rt, path) {
+        Ok(file) => read_full(file, buffer),
+        Err(_) => 0,
     }
-    let n = io::read_full(file, buffer);
-    libc::close(file);
-    n
 }
 
-fn text(bytes: &[u8]) {
-    io::write_all(STDOUT_FILENO, bytes);
+// Reads until the buffer is full, the input ends or a read fails, and returns how many bytes stand at the buffer's start.
+// Each read but the last gives at least one, so that there are no more reads than bytes that fit.
+fn read_full<R: Read + Drop>(mut file: R, buffer: &mut [u8]) -> usize
+    ensures { result ≤ length buffer.new }
+{
+    let mut done = 0;
+    for _ in 0..buffer.len() {
+        match file.read(&mut buffer[done..]) {
+            Ok(0) | Err(_) => break,
+            Ok(n) => done += n,
+        }
+    }
+    done
+}
+
+fn text(rt: &impl Print, words: &str) -> io::Result<()> {
+    print!(rt; "{words}")
 }
 
 // A number after what stands before it.
-fn number(before: &[u8], n: u64) {
-    text(before);
-    io::print_decimal(STDOUT_FILENO, n);
+fn number(rt: &impl Print, before: &str, n: u64) -> io::Result<()> {
+    print!(rt; "{before}{n}")
 }
 
-fn print_counts(c: Counts) {
-    number(b"U=", c.u as u64);
-    number(b" W=", c.w as u64);
-    number(b" P=", c.p as u64);
-    number(b" T=", c.t as u64);
-    text(b"\n");
+fn print_counts(rt: &impl Print, c: Counts) -> io::Result<()> {
+    println!(rt; "U={} W={} P={} T={}", c.u, c.w, c.p, c.t)
 }
 
-fn print_refusal(r: Refusal) {
-    number(b"REFUSED ", r.number as u64);
-    number(b" ", r.which as u64);
-    number(b" ", r.place as u64);
-    text(b"\n");
+fn print_refusal(rt: &impl Print, r: Refusal) -> io::Result<()> {
+    println!(rt; "REFUSED {} {} {}", r.number, r.which, r.place)
 }
 
 fn wide(letter: u8) -> u64 {
-    letter as u64
+    u64::from(letter)
 }
 
 // The letters of a word, each as a space and a decimal number.
-fn print_word(name: &[u8], word: &[u8]) {
-    text(name);
-    let mut i = 0;
-    while i < word.len() {
-        number(b" ", wide(word[i]));
-        i += 1;
+fn print_word(rt: &impl Print, name: &str, word: &[u8]) -> io::Result<()> {
+    text(rt, name)?;
+    for letter in word {
+        number(rt, " ", wide(*letter))?;
     }
-    text(b"\n");
+    text(rt, "\n")
 }
 
 // The first n letters of an output.
-fn print_prefix(name: &[u8], output: &[u8], n: usize) {
+fn print_prefix(rt: &impl Print, name: &str, output: &[u8], n: usize) -> io::Result<()> {
     if n <= output.len() {
-        print_word(name, &output[0..n]);
+        print_word(rt, name, &output[..n])?;
     }
+    Ok(())
 }
 
-fn print(answer: Answer, stem: &[u8], period: &[u8]) {
+fn print(rt: &impl Print, answer: Answer, stem: &[u8], period: &[u8]) -> io::Result<()> {
     match answer {
         Answer::Included(counts) => {
-            text(b"INCLUDED\n");
-            print_counts(counts);
+            text(rt, "INCLUDED\n")?;
+            print_counts(rt, counts)
         }
         Answer::NotIncluded(counts, lengths) => {
-            text(b"NOT INCLUDED\n");
-            print_counts(counts);
-            print_prefix(b"stem:", stem, lengths.stem);
-            print_prefix(b"period:", period, lengths.period);
+            text(rt, "NOT INCLUDED\n")?;
+            print_counts(rt, counts)?;
+            print_prefix(rt, "stem:", stem, lengths.stem)?;
+            print_prefix(rt, "period:", period, lengths.period)
         }
         Answer::Refused(refusal, counts) => {
-            print_refusal(refusal);
-            print_counts(counts);
+            print_refusal(rt, refusal)?;
+            print_counts(rt, counts)
         }
     }
 }
 
-fn decide(model: &[u8], rule: &[u8]) {
+fn decide(rt: &impl Print, model: &[u8], rule: &[u8]) -> io::Result<()> {
     let mut smallest = [0u32; 4096];
     let mut largest = [0u32; 4096];
     let mut links = [0u32; 2048];
@@ -105,13 +112,13 @@ fn decide(model: &[u8], rule: &[u8]) {
         &mut stem,
         &mut period,
     );
-    print(answer, &stem, &period);
+    print(rt, answer, &stem, &period)
 }
 
-fn main() {
+fn main(rt: HostRuntime) -> io::Result<()> {
     let mut model = [0u8; 16456];
     let mut rule = [0u8; 16456];
-    let a = read_file(b"model.rec", &mut model);
-    let b = read_file(b"rule.rec", &mut rule);
-    decide(&model[0..a], &rule[0..b]);
+    let a = read_file(&rt, "model.rec", &mut model);
+    let b = read_file(&rt, "rule.rec", &mut rule);
+    decide(&rt, &model[..a], &rule[..b])
 }
