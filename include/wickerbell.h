@@ -9,7 +9,7 @@
  *   - The calling thread has 1 MiB of stack left, of which less than half is used: scratch lies there. Nothing is
  *     allocated and nothing is kept from call to call, so threads may call at the same time, each with its own lent elements.
  *
- * Link target/staticlib/libhost.a, which `rt staticlib host` writes.
+ * Link crates/host/out/libhost.a, which `rt lib` in crates/host writes.
  */
 #ifndef WICKERBELL_H
 #define WICKERBELL_H

@@ -4,8 +4,8 @@
 # They set `library` (the folder of libhost.a) and `program`; a folder given by --stand-in replaces both.
 
 root=$(cd "$(dirname "${BASH_SOURCE[0]}")/.." && pwd)
-library=$root/target/staticlib
-program=$root/target/bin/wickerbell
+library=$root/crates/host/out
+program=$root/crates/wickerbell/out/wickerbell
 
 fail() { echo "$*" >&2; exit 1; }
 
@@ -27,21 +27,21 @@ without_stand_in() {
 }
 
 # Is the file there, and older than no source of any crate?
-fresh() { [ -e "$1" ] && [ -z "$(find "$root/crates" "$root/crates.txt" -type f -newer "$1" | head -n 1)" ]; }
+fresh() { [ -e "$1" ] && [ -z "$(find "$root/crates" "$root/crates.txt" -name out -prune -o -type f -newer "$1" -print | head -n 1)" ]; }
 
-made() { # FILE WORDS: runs rt WORDS where FILE is not fresh
-  local file=$1
-  shift
-  fresh "$file" && return
+made() { # FILE VERB: runs rt VERB in the folder of FILE's crate, where FILE, which lies in its out/, is not fresh
+  local crate=${1%/out/*}
+  fresh "$1" && return
   command -v rt >/dev/null || fail "no rt here: install the Rattle kit and put its bin folder on PATH"
-  (cd "$root" && rt "$@") || fail "rt $* failed"
-  [ -e "$file" ] || fail "rt $* did not write ${file#"$root"/}"
+  (cd "$crate" && rt "$2") || fail "rt $2 failed in ${crate#"$root"/}"
+  [ -e "$1" ] || fail "rt $2 did not write ${1#"$root"/}"
   # rt writes nothing where nothing changed; the file is then as good as new
-  touch "$file"
+  touch "$1"
 }
 
-need_library() { [ "$library" != "$root/target/staticlib" ] || made "$library/libhost.a" staticlib host; }
-need_program() { [ "$program" != "$root/target/bin/wickerbell" ] || made "$program" check wickerbell; }
+need_library() { [ "$library" != "$root/crates/host/out" ] || made "$library/libhost.a" lib; }
+# (rt run also runs the program, which finds no files there: what that prints is no one's)
+need_program() { [ "$program" != "$root/crates/wickerbell/out/wickerbell" ] || made "$program" run >/dev/null </dev/null; }
 
 built() { # PACKAGE FOLDER: builds it for release, with no network, into target/cargo
   command -v cargo >/dev/null || fail "no cargo here: install Rust"

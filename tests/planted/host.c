@@ -2,7 +2,7 @@
  *
  * It shows that the tests from outside find what they are for. It is a third implementation of document 01, packed and
  * in place where the reference is plain, so without a mistake it also holds the reference to a second reading.
- * No gate uses it: the library itself is tests/../target/staticlib/libhost.a. */
+ * No gate uses it: the library itself is crates/host/out/libhost.a. */
 #include <string.h>
 #include "wickerbell.h"
 

@@ -23,7 +23,7 @@ const USAGE: &str = "options: --pairs N, --damaged N, --seed N, --only PAIR, --p
 fn options() -> Checked<Options> {
     let mut words = std::env::args().skip(1);
     let root = PathBuf::from(words.next().ok_or("the first word is the repository's folder")?);
-    let program = root.join("target/bin/wickerbell");
+    let program = root.join("crates/wickerbell/out/wickerbell");
     let mut options = Options { root, program, pairs: 20_000, damaged: 5_000, seed: 1, only: None, program_every: 4 };
     while let Some(word) = words.next() {
         let value = words.next().ok_or(format!("{word} needs a value; {USAGE}"))?;
