@@ -14,6 +14,5 @@ returns-then-has16 c =
 pub returns : goal.returns
 unfolding transition_step transition_table cell_with cell
 returns c =
-    let known = c in
-    let new = sym known.has16.ensures ∙ known.if-has16.false in
-    record { step = simp (new, c.larger-2.ensures, c.larger.ensures, add-one); table = simp (new, known.with.ensures) }
+    let new = sym c.has16.ensures ∙ c.if-has16.false in
+    record { step = simp (new, c.larger-2.ensures, c.larger.ensures, add-one); table = simp (new, c.with.ensures) }

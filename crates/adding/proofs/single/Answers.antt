@@ -28,21 +28,18 @@ returns-then-y-ne0 c = simp (no_T c.requires, one_state c.requires, ne_eqb _ _ c
 pub returns-then-z-ne0 : goal.returns-then-z-ne0
 unfolding record_of
 returns-then-z-ne0 c =
-    let start = c in
-    simp (no_T start.requires, one_state start.requires, eq-eqb _ _ c.if-y-ne0.false, ne_eqb _ _ c.if-z-ne0.true)
+    simp (no_T c.requires, one_state c.requires, eq-eqb _ _ c.if-y-ne0.false, ne_eqb _ _ c.if-z-ne0.true)
 
 pub returns-then-q-states : goal.returns-then-q-states
 unfolding record_of
 returns-then-q-states c =
-    let start = c in
-    simp (no_T start.requires, one_state start.requires, eq-eqb _ _ c.if-y-ne0.false, eq-eqb _ _ c.if-z-ne0.false, le-ltb _ _ c.if-q-states.true)
+    simp (no_T c.requires, one_state c.requires, eq-eqb _ _ c.if-y-ne0.false, eq-eqb _ _ c.if-z-ne0.false, le-ltb _ _ c.if-q-states.true)
 
 pub returns-then-kind-eq73 : goal.returns-then-kind-eq73
 unfolding record_of
 returns-then-kind-eq73 c =
-    let start = c in
     simp (
-      no_T start.requires,
+      no_T c.requires,
       eq-eqb _ _ c.if-y-ne0.false,
       eq-eqb _ _ c.if-z-ne0.false,
       lt-ltb _ _ c.if-q-states.false,
@@ -52,12 +49,11 @@ returns-then-kind-eq73 c =
 pub returns : goal.returns
 unfolding record_of
 returns c =
-    let start = c in
     simp (
-      no_T start.requires,
+      no_T c.requires,
       eq-eqb _ _ c.if-y-ne0.false,
       eq-eqb _ _ c.if-z-ne0.false,
       lt-ltb _ _ c.if-q-states.false,
       ne_eqb _ _ c.if-kind-eq73.false,
-      is_F start.requires c.if-kind-eq73.false,
+      is_F c.requires c.if-kind-eq73.false,
     )

@@ -3,12 +3,9 @@ use Rattle.host.proofs.wickerbell_decide.Goals as goal
 
 pub returns : goal.returns
 returns c =
-    let told = c in
-    let asked = told in
-    let judged = asked in
     record {
-      answer = asked.decide-answer.result;
-      demands = rw judged.room_with-room.ensures at asked.decide-answer.ensures;
+      answer = c.decide-answer.result;
+      demands = rw c.room_with-room.ensures at c.decide-answer.ensures;
       number_told = c.number_in.ensures;
-      row_told = told.put_row.ensures;
+      row_told = c.put_row.ensures;
     }

@@ -4,27 +4,21 @@ use Rattle.inclusion.proofs.decide.Goals as goal
 
 pub returns-in_default : goal.returns-in_default
 returns-in_default c =
-    let load = c in
-    let args = load.args in
+    let args = c.args in
     stopped_right args.model.now args.rule.now args.stem_room args.period_room
     (record { smallest = args.smallest.now; largest = args.largest.now; links = args.links.now; contexts = args.contexts.now; stem = args.stem.now; period = args.period.now })
-    load.load-outset.ensures c.in_default.is c.stopped_by.ensures
+    c.load-outset.ensures c.in_default.is c.stopped_by.ensures
 
 pub walk-ending-requires : goal.walk-ending-requires
 walk-ending-requires c =
-    let outset = c in
-    let load = outset in
-    let args = load.args in
+    let args = c.args in
     prepared args.model.now args.rule.now args.stem_room args.period_room
     (record { smallest = args.smallest.now; largest = args.largest.now; links = args.links.now; contexts = args.contexts.now; stem = args.stem.now; period = args.period.now })
-    load.load-outset.ensures outset.in-Walks.is
+    c.load-outset.ensures c.in-Walks.is
 
 pub returns : goal.returns
 returns c =
-    let walk = c in
-    let outset = walk in
-    let load = outset in
-    let args = load.args in
+    let args = c.args in
     walked_right args.model.now args.rule.now args.stem_room args.period_room
     (record { smallest = args.smallest.now; largest = args.largest.now; links = args.links.now; contexts = args.contexts.now; stem = args.stem.now; period = args.period.now })
-    load.load-outset.ensures outset.in-Walks.is walk.walk-ending.ensures c.answer_to.ensures
+    c.load-outset.ensures c.in-Walks.is c.walk-ending.ensures c.answer_to.ensures

@@ -7,10 +7,8 @@ use Rattle.lassos.proofs.put_set.Goals as goal
 
 pub returns-then-link_state-s : goal.returns-then-link_state-s
 returns-then-link_state-s c =
-    let start = c in
-    simp (ne_eqb (link_state (get_or start.args.links.now start.args.j 0)) start.args.s (λ e. c.if-link_state-s.true (c.link_state.ensures ∙ e)))
+    simp (ne_eqb (link_state (get_or c.args.links.now c.args.j 0)) c.args.s (λ e. c.if-link_state-s.true (c.link_state.ensures ∙ e)))
 
 pub returns : goal.returns
 returns c =
-    let start = c in
-    simp (eq-eqb (link_state (get_or start.args.links.now start.args.j 0)) start.args.s (sym c.link_state.ensures ∙ c.if-link_state-s.false), c.repeated-set.ensures)
+    simp (eq-eqb (link_state (get_or c.args.links.now c.args.j 0)) c.args.s (sym c.link_state.ensures ∙ c.if-link_state-s.false), c.repeated-set.ensures)

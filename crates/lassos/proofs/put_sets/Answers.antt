@@ -10,9 +10,7 @@ loop-j-init c = (search rules, refl, λ k l. absurd (omega arith))
 
 pub loop-j-preserved : goal.loop-j-preserved
 loop-j-preserved c =
-    let at = c in
-    let start = at in
-    (search rules, search rules, rw c.put_set.ensures (put_more start.args.s start.args.links.now start.args.contexts.now at.loop-j.sets (search rules) at.loop-j.invariant.2))
+    (search rules, search rules, rw c.put_set.ensures (put_more c.args.s c.args.links.now c.args.contexts.now c.loop-j.sets (search rules) c.loop-j.invariant.2))
 
 pub returns : goal.returns
 returns c = record { set_at = λ j l. c.loop-j.invariant.2 j (omega arith) }

@@ -7,19 +7,14 @@ use Rattle.membership.proofs.test.Goals as goal
 
 pub returns-in_default : goal.returns-in_default
 returns-in_default c =
-    let read = c in
-    let args = read.args in
-    test_right (ap Refused c.refusal_of.ensures ∙ bad_file_lem args.records.now args.stem.now args.period.now read.read-file.ensures.answer c.in_default.is)
+    let args = c.args in
+    test_right (ap Refused c.refusal_of.ensures ∙ bad_file_lem args.records.now args.stem.now args.period.now c.read-file.ensures.answer c.in_default.is)
 
 pub test_words-requires : goal.test_words-requires
 test_words-requires c =
-    let file = c in
-    let read = file in
-    start_small read.args.records.now (sym read.read-file.ensures.answer ∙ file.in-Good.is)
+    start_small c.args.records.now (sym c.read-file.ensures.answer ∙ c.in-Good.is)
 
 pub returns : goal.returns
 returns c =
-    let file = c in
-    let read = file in
-    let args = read.args in
-    test_right (good_file args.records.now args.stem.now args.period.now read.read-file.ensures.answer read.read-file.ensures.table file.in-Good.is c.test_words.ensures)
+    let args = c.args in
+    test_right (good_file args.records.now args.stem.now args.period.now c.read-file.ensures.answer c.read-file.ensures.table c.in-Good.is c.test_words.ensures)

@@ -12,33 +12,26 @@ returns-then-period-eq0 c =
 
 pub returns-in_default : goal.returns-in_default
 returns-in_default c =
-    let start = c in
-    let args = start.args in
+    let args = c.args in
     c.bad_letter.ensures ∙ bad_stem (aut_of (cell args.table.now) args.head) args.stem.now args.period.now
-    start.if-period-eq0.false c.check-in_stem.ensures c.in_default.is
+    c.if-period-eq0.false c.check-in_stem.ensures c.in_default.is
 
 pub returns-in_default-in_period : goal.returns-in_default-in_period
 returns-in_default-in_period c =
-    let stem = c in
-    let checked = stem in
-    let args = checked.args in
+    let args = c.args in
     c.bad_letter-in_default-in_period.ensures ∙ bad_period (aut_of (cell args.table.now) args.head) args.stem.now args.period.now
-    checked.if-period-eq0.false checked.check-in_stem.ensures stem.in-Good.is c.check-in_period.ensures c.in_default-in_period.is
+    c.if-period-eq0.false c.check-in_stem.ensures c.in-Good.is c.check-in_period.ensures c.in_default-in_period.is
 
 pub decide-requires : goal.decide-requires
 decide-requires c =
-    let stem = c in
-    let checked = stem in
-    let args = checked.args in (
+    let args = c.args in (
       search rules,
-      check_good args.stem.now (sym checked.check-in_stem.ensures ∙ stem.in-Good.is),
+      check_good args.stem.now (sym c.check-in_stem.ensures ∙ c.in-Good.is),
       check_good args.period.now (sym c.check-in_period.ensures ∙ c.in-Good-in_period.is),
     )
 
 pub returns : goal.returns
 returns c =
-    let stem = c in
-    let checked = stem in
-    let args = checked.args in
+    let args = c.args in
     good_words (aut_of (cell args.table.now) args.head) args.stem.now args.period.now
-    checked.if-period-eq0.false checked.check-in_stem.ensures stem.in-Good.is c.check-in_period.ensures c.in-Good-in_period.is c.decide.ensures
+    c.if-period-eq0.false c.check-in_stem.ensures c.in-Good.is c.check-in_period.ensures c.in-Good-in_period.is c.decide.ensures

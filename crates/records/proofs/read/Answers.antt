@@ -24,33 +24,27 @@ record_at-r-requires c = omega (arith, div-mul-le_self (length c.args.s.now) 4)
 
 pub add-step-requires : goal.add-step-requires
 add-step-requires c =
-    let loop = c in
-    subst⁻¹ Sized c.record_at-r.ensures (record_sized loop.args.states loop.args.s.now loop.loop-i.i loop.requires)
+    subst⁻¹ Sized c.record_at-r.ensures (record_sized c.args.states c.args.s.now c.loop-i.i c.requires)
 
 pub returns-in_default : goal.returns-in_default
 returns-in_default c =
-    let added = c in
-    let loop = added in
-    let args = loop.args in
-    let a = stopped args.states args.s.now (turned c.args.states c.args.s.now c.requires c.loop-i.invariant c.loop-i-test.true c.record_at-r.ensures c.add-step.ensures.step c.add-step.ensures.table) loop.if-n-ne0.false c.in_default.is c.stop_of.ensures in
+    let args = c.args in
+    let a = stopped args.states args.s.now (turned c.args.states c.args.s.now c.requires c.loop-i.invariant c.loop-i-test.true c.record_at-r.ensures c.add-step.ensures.step c.add-step.ensures.table) c.if-n-ne0.false c.in_default.is c.stop_of.ensures in
     record { answer = a.0; table = a.1 }
 
 pub loop-i-preserved : goal.loop-i-preserved
 loop-i-preserved c =
-    let added = c in
-    let args = added.args in
+    let args = c.args in
     went_on args.states args.s.now (turned c.args.states c.args.s.now c.requires c.loop-i.invariant c.loop-i-test.true c.record_at-r.ensures c.add-step.ensures.step c.add-step.ensures.table) c.in-On.is
 
 pub returns-then-head-eq16 : goal.returns-then-head-eq16
 returns-then-head-eq16 c =
-    let loop = c in
-    let a = no_start loop.args.states loop.args.s.now loop.if-n-ne0.false loop.requires loop.loop-i.invariant c.loop-i-test.false
+    let a = no_start c.args.states c.args.s.now c.if-n-ne0.false c.requires c.loop-i.invariant c.loop-i-test.false
     c.if-head-eq16.true in
     record { answer = a.0; table = a.1 }
 
 pub returns : goal.returns
 returns c =
-    let loop = c in
-    let a = good_file loop.args.states loop.args.s.now loop.if-n-ne0.false loop.requires loop.loop-i.invariant c.loop-i-test.false
+    let a = good_file c.args.states c.args.s.now c.if-n-ne0.false c.requires c.loop-i.invariant c.loop-i-test.false
     c.if-head-eq16.false in
     record { answer = a.0; table = a.1 }

@@ -24,8 +24,7 @@ loop-k-init c =
 
 pub round-r-requires : goal.round-r-requires
 round-r-requires c =
-    let start = c in
-    let loop = c.loop-k in record { ready = ready_on start.requires.ready loop.invariant.2 loop.invariant.3 loop.invariant.4 (omega (arith, loop.invariant.1, start.requires.s_bound.1, start.requires.s_bound.2)); s_bound = (start.requires.s_bound.0, sym c.has16.ensures ∙ c.if-not-has16.false) }
+    let loop = c.loop-k in record { ready = ready_on c.requires.ready loop.invariant.2 loop.invariant.3 loop.invariant.4 (omega (arith, loop.invariant.1, c.requires.s_bound.1, c.requires.s_bound.2)); s_bound = (c.requires.s_bound.0, sym c.has16.ensures ∙ c.if-not-has16.false) }
 
 pub returns-in_default : goal.returns-in_default
 unfolding rounds_at round_for Stopped
@@ -43,11 +42,10 @@ loop-k-smaller c = omega (arith, c.loop-k-test.true)
 pub loop-k-preserved : goal.loop-k-preserved
 unfolding round_for
 loop-k-preserved c =
-    let start = c in
-    let args = start.args in
+    let args = c.args in
     let loop = c.loop-k in
     let round = c.round-r in
-    let more = tests_more (aut_of (cell args.model.now) args.model_head) (aut_of (cell args.rule.now) args.rule_head) args.stems.now args.room start.requires.ready.stems start.requires.ready.short (round_for (aut_of (cell args.model.now) args.model_head) args.largest.now args.s loop.k) loop.p loop.t 1 round.ensures c.in-Through.is (round_count (aut_of (cell args.model.now) args.model_head) args.largest.now args.s loop.k) in (
+    let more = tests_more (aut_of (cell args.model.now) args.model_head) (aut_of (cell args.rule.now) args.rule_head) args.stems.now args.room c.requires.ready.stems c.requires.ready.short (round_for (aut_of (cell args.model.now) args.model_head) args.largest.now args.s loop.k) loop.p loop.t 1 round.ensures c.in-Through.is (round_count (aut_of (cell args.model.now) args.model_head) args.largest.now args.s loop.k) in (
       omega (arith, c.loop-k-test.true),
       omega (arith, more, loop.invariant.1),
       search rules,

@@ -17,8 +17,7 @@ loop-s-init c =
 
 pub at_state-r-requires : goal.at_state-r-requires
 at_state-r-requires c =
-    let start = c in
-    let loop = c.loop-s in record { ready = ready_on start.requires.ready loop.invariant.2 loop.invariant.3 loop.invariant.4 (omega (arith, loop.invariant.0, loop.invariant.1)); s_bound = (c.loop-s-test.true, start.requires.largest_len_bound, omega (arith, loop.invariant.0, loop.invariant.1)) }
+    let loop = c.loop-s in record { ready = ready_on c.requires.ready loop.invariant.2 loop.invariant.3 loop.invariant.4 (omega (arith, loop.invariant.0, loop.invariant.1)); s_bound = (c.loop-s-test.true, c.requires.largest_len_bound, omega (arith, loop.invariant.0, loop.invariant.1)) }
 
 pub returns-in_default : goal.returns-in_default
 unfolding rounds Stopped
@@ -35,12 +34,11 @@ loop-s-smaller c = omega (arith, c.loop-s-test.true)
 
 pub loop-s-preserved : goal.loop-s-preserved
 loop-s-preserved c =
-    let start = c in
-    let args = start.args in
+    let args = c.args in
     let loop = c.loop-s in
     let state = c.at_state-r in
-    let count : length (rounds_at (aut_of (cell args.model.now) args.model_head) args.largest.now loop.s) ≤ 4096 = omega (arith, rounds_count (aut_of (cell args.model.now) args.model_head) args.largest.now loop.s, start.requires.largest_len_bound) in
-    let more = tests_more (aut_of (cell args.model.now) args.model_head) (aut_of (cell args.rule.now) args.rule_head) args.stems.now args.room start.requires.ready.stems start.requires.ready.short (rounds_at (aut_of (cell args.model.now) args.model_head) args.largest.now loop.s) loop.p loop.t 4096 state.ensures c.in-Through.is count in (
+    let count : length (rounds_at (aut_of (cell args.model.now) args.model_head) args.largest.now loop.s) ≤ 4096 = omega (arith, rounds_count (aut_of (cell args.model.now) args.model_head) args.largest.now loop.s, c.requires.largest_len_bound) in
+    let more = tests_more (aut_of (cell args.model.now) args.model_head) (aut_of (cell args.rule.now) args.rule_head) args.stems.now args.room c.requires.ready.stems c.requires.ready.short (rounds_at (aut_of (cell args.model.now) args.model_head) args.largest.now loop.s) loop.p loop.t 4096 state.ensures c.in-Through.is count in (
       omega (arith, c.loop-s-test.true),
       omega (arith, more, loop.invariant.1),
       search rules,

@@ -8,59 +8,50 @@ use Rattle.search.proofs.tell.Goals as goal
 pub grow-first-requires : goal.grow-first-requires
 unfolding aut_of
 grow-first-requires c =
-    let start = c in
-    let args = start.args in
-    record { room_bound = (start.requires.few_stems, start.requires.smallest_fits); model_head_bound = (start.requires.bounded.small.start_small, start.requires.small.start_small) }
+    let args = c.args in
+    record { room_bound = (c.requires.few_stems, c.requires.smallest_fits); model_head_bound = (c.requires.bounded.small.start_small, c.requires.small.start_small) }
 
 pub returns-in_default : goal.returns-in_default
 returns-in_default c =
-    let start = c in
-    let args = start.args in
+    let args = c.args in
     rw c.stems_full.ensures (told_u (aut_of (cell args.model.now) args.model_head) (aut_of (cell args.rule.now) args.rule_head) args.stem_room args.period_room c.grow-first.ensures c.in_default.is)
 
 pub grow-second-requires : goal.grow-second-requires
 unfolding aut_of
 grow-second-requires c =
-    let start = c in
-    let args = start.args in
-    record { room_bound = (start.requires.few_stems, start.requires.largest_fits); model_head_bound = (start.requires.bounded.small.start_small, start.requires.small.start_small) }
+    let args = c.args in
+    record { room_bound = (c.requires.few_stems, c.requires.largest_fits); model_head_bound = (c.requires.bounded.small.start_small, c.requires.small.start_small) }
 
 pub returns-in_default-second : goal.returns-in_default-second
 returns-in_default-second c =
-    let start = c in
-    let args = start.args in
+    let args = c.args in
     rw c.stems_full-in_default-second.ensures (told_w (aut_of (cell args.model.now) args.model_head) (aut_of (cell args.rule.now) args.rule_head) args.stem_room args.period_room c.grow-first.ensures c.in-Ended.is c.grow-second.ensures c.in_default-second.is)
 
 pub slice_bounds-u_table-end : goal.slice_bounds-u_table-end
 slice_bounds-u_table-end c =
-    let start = c in
-    let args = start.args in
-    stems_fit (aut_of (cell args.model.now) args.model_head) (aut_of (cell args.rule.now) args.rule_head) args.stem_room false c.grow-first.ensures c.in-Ended.is start.requires.smallest_fits
+    let args = c.args in
+    stems_fit (aut_of (cell args.model.now) args.model_head) (aut_of (cell args.rule.now) args.rule_head) args.stem_room false c.grow-first.ensures c.in-Ended.is c.requires.smallest_fits
 
 pub slice_bounds-w_table-end : goal.slice_bounds-w_table-end
 slice_bounds-w_table-end c =
-    let start = c in
-    let args = start.args in
-    stems_fit (aut_of (cell args.model.now) args.model_head) (aut_of (cell args.rule.now) args.rule_head) args.stem_room true c.grow-second.ensures c.in-Ended-second.is start.requires.largest_fits
+    let args = c.args in
+    stems_fit (aut_of (cell args.model.now) args.model_head) (aut_of (cell args.rule.now) args.rule_head) args.stem_room true c.grow-second.ensures c.in-Ended-second.is c.requires.largest_fits
 
 pub all-found-requires : goal.all-found-requires
 all-found-requires c =
-    let start = c in
-    let args = start.args in
-    let g = grown (aut_of (cell args.model.now) args.model_head) (aut_of (cell args.rule.now) args.rule_head) args.stem_room args.period_room start.requires c.grow-first.ensures c.grow-second.ensures c.in-Ended.is c.in-Ended-second.is in
+    let args = c.args in
+    let g = grown (aut_of (cell args.model.now) args.model_head) (aut_of (cell args.rule.now) args.rule_head) args.stem_room args.period_room c.requires c.grow-first.ensures c.grow-second.ensures c.in-Ended.is c.in-Ended-second.is in
     record { stems_len_bound = (g.u_few, g.w_few); room_bound = (g.short, g.links_fit, g.contexts_fit) }
 
 pub show-requires : goal.show-requires
 show-requires c =
-    let start = c in
-    let args = start.args in
+    let args = c.args in
     showable
-    (grown (aut_of (cell args.model.now) args.model_head) (aut_of (cell args.rule.now) args.rule_head) args.stem_room args.period_room start.requires c.grow-first.ensures c.grow-second.ensures c.in-Ended.is c.in-Ended-second.is)
+    (grown (aut_of (cell args.model.now) args.model_head) (aut_of (cell args.rule.now) args.rule_head) args.stem_room args.period_room c.requires c.grow-first.ensures c.grow-second.ensures c.in-Ended.is c.in-Ended-second.is)
     (search rules) c.all-found.ensures.legible
 
 pub returns : goal.returns
 returns c =
-    let start = c in
-    let args = start.args in
-    told_rounds (aut_of (cell args.model.now) args.model_head) (aut_of (cell args.rule.now) args.rule_head) args.stem_room args.period_room start.requires c.grow-first.ensures c.grow-second.ensures c.in-Ended.is c.in-Ended-second.is
+    let args = c.args in
+    told_rounds (aut_of (cell args.model.now) args.model_head) (aut_of (cell args.rule.now) args.rule_head) args.stem_room args.period_room c.requires c.grow-first.ensures c.grow-second.ensures c.in-Ended.is c.in-Ended-second.is
     c.all-found.ensures.finish c.show.ensures

@@ -11,11 +11,10 @@ tell-ending-requires c = parts_prepared c.requires
 pub returns : goal.returns
 unfolding left_by
 returns c =
-    let start = c in
-    let args = start.args in
+    let args = c.args in
     let told = c.tell-ending.ensures in
-    let links = put_clear args.period_room args.links.now c.tell-ending.new.links start.requires.links_fit c.tell-ending.auto.links c.clear_links.ensures in
-    let contexts = put_clear (2 * args.period_room) args.contexts.now c.tell-ending.new.contexts start.requires.contexts_fit c.tell-ending.auto.contexts c.clear_contexts.ensures in
+    let links = put_clear args.period_room args.links.now c.tell-ending.new.links c.requires.links_fit c.tell-ending.auto.links c.clear_links.ensures in
+    let contexts = put_clear (2 * args.period_room) args.contexts.now c.tell-ending.new.contexts c.requires.contexts_fit c.tell-ending.auto.contexts c.clear_contexts.ensures in
     record {
       answer = told.answer;
       left = λ i. record {

@@ -12,15 +12,14 @@ loop-q-init c = (search rules, going_from _ _ c.requires.ready)
 
 pub returns-in_default : goal.returns-in_default
 returns-in_default c =
-    let at = c in
-    going_full _ _ _ _ at.loop-q.invariant.1 (gather_on _ _ (at_state at.args.by) 16 at.loop-q.q _ (omega arith))
+    going_full _ _ _ _ c.loop-q.invariant.1 (gather_on _ _ (at_state c.args.by) 16 c.loop-q.q _ (omega arith))
     c.offer_at.ensures c.in_default.is
 
 pub loop-q-preserved : goal.loop-q-preserved
 loop-q-preserved c =
-    let at = c in (
+(
       search rules,
-      going_on _ _ _ _ at.loop-q.invariant.1 (gather_on _ _ (at_state at.args.by) 16 at.loop-q.q _ (omega arith))
+      going_on _ _ _ _ c.loop-q.invariant.1 (gather_on _ _ (at_state c.args.by) 16 c.loop-q.q _ (omega arith))
           c.offer_at.ensures c.in-Ended.is,
     )
 

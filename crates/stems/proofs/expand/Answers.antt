@@ -12,8 +12,7 @@ use Rattle.stems.proofs.expand.Goals as goal
 
 pub loop-x-init : goal.loop-x-init
 loop-x-init c =
-    let start = c in
-    (search rules, rw (letters_all start.args.model.now start.args.rule.now start.args.i (get_or start.args.table.now start.args.i 0)) (going_from _ _ start.requires.ready))
+    (search rules, rw (letters_all c.args.model.now c.args.rule.now c.args.i (get_or c.args.table.now c.args.i 0)) (going_from _ _ c.requires.ready))
 
 pub by_letter-requires : goal.by_letter-requires
 unfolding move_of
@@ -22,22 +21,18 @@ by_letter-requires c = record { ready = search rules; letter_bound = omega (arit
 pub returns-in_default : goal.returns-in_default
 unfolding by_letter
 returns-in_default c =
-    let at = c in
-    let start = at in
-    going_full _ _ _ _ at.loop-x.invariant.1 (gather_on _ _ (by_letter start.args.model.now start.args.rule.now start.args.i (get_or start.args.table.now start.args.i 0)) 16 at.loop-x.x _ (omega arith))
-    (rw c.step.ensures at c.by_letter.ensures) c.in_default.is
+    going_full _ _ _ _ c.loop-x.invariant.1 (gather_on _ _ (by_letter c.args.model.now c.args.rule.now c.args.i (get_or c.args.table.now c.args.i 0)) 16 c.loop-x.x _ (omega arith))
+    (rw c.step.ensures c c.by_letter.ensures) c.in_default.is
 
 pub loop-x-preserved : goal.loop-x-preserved
 unfolding by_letter
 loop-x-preserved c =
-    let at = c in
-    let start = at in (
+(
       search rules,
-      going_on _ _ _ _ at.loop-x.invariant.1 (gather_on _ _ (by_letter start.args.model.now start.args.rule.now start.args.i (get_or start.args.table.now start.args.i 0)) 16 at.loop-x.x _ (omega arith))
-          (rw c.step.ensures at c.by_letter.ensures) c.in-Ended.is,
+      going_on _ _ _ _ c.loop-x.invariant.1 (gather_on _ _ (by_letter c.args.model.now c.args.rule.now c.args.i (get_or c.args.table.now c.args.i 0)) 16 c.loop-x.x _ (omega arith))
+          (rw c.step.ensures c c.by_letter.ensures) c.in-Ended.is,
     )
 
 pub returns : goal.returns
 returns c =
-    let start = c in
-    going_end _ _ c.loop-x.invariant.1 (gather_done _ _ (by_letter start.args.model.now start.args.rule.now start.args.i (get_or start.args.table.now start.args.i 0)) 16 c.loop-x.x _ (omega arith))
+    going_end _ _ c.loop-x.invariant.1 (gather_done _ _ (by_letter c.args.model.now c.args.rule.now c.args.i (get_or c.args.table.now c.args.i 0)) 16 c.loop-x.x _ (omega arith))

@@ -5,24 +5,17 @@ use Rattle.stems.proofs.grow.Goals as goal
 
 pub offer-requires : goal.offer-requires
 offer-requires c =
-    let start = c in
-    ready_none start.args.largest start.args.room start.args.table.now start.requires.room_bound.0 start.requires.room_bound.1
+    ready_none c.args.largest c.args.room c.args.table.now c.requires.room_bound.0 c.requires.room_bound.1
 
 pub returns-in_default : goal.returns-in_default
 returns-in_default c =
-    let at = c in
-    let start = at in
-    (root_full start.args.model.now start.args.rule.now start.args.model_head start.args.rule_head at.root-first.ensures start.requires.room_bound.0 start.requires.room_bound.1 at.offer.ensures c.in_default.is).held
+    (root_full c.args.model.now c.args.rule.now c.args.model_head c.args.rule_head c.root-first.ensures c.requires.room_bound.0 c.requires.room_bound.1 c.offer.ensures c.in_default.is).held
 
 pub take_all-requires : goal.take_all-requires
 take_all-requires c =
-    let at = c in
-    let start = at in
-    (root_on start.args.model.now start.args.rule.now start.args.model_head start.args.rule_head at.root-first.ensures start.requires.room_bound.0 start.requires.room_bound.1 at.offer.ensures c.in-Ended.is).ready
+    (root_on c.args.model.now c.args.rule.now c.args.model_head c.args.rule_head c.root-first.ensures c.requires.room_bound.0 c.requires.room_bound.1 c.offer.ensures c.in-Ended.is).ready
 
 pub returns : goal.returns
 returns c =
-    let at = c in
-    let start = at in
-    (root_last start.args.model.now start.args.rule.now start.args.model_head start.args.rule_head at.root-first.ensures start.requires.room_bound.0 start.requires.room_bound.1 at.offer.ensures c.in-Ended.is
+    (root_last c.args.model.now c.args.rule.now c.args.model_head c.args.rule_head c.root-first.ensures c.requires.room_bound.0 c.requires.room_bound.1 c.offer.ensures c.in-Ended.is
     c.take_all.ensures).held

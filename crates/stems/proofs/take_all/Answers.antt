@@ -11,20 +11,14 @@ loop-i-init c = rw sub-zero (going_from _ _ c.requires)
 
 pub returns-in_default : goal.returns-in_default
 returns-in_default c =
-    let at = c in
-    let start = at in
-    going_full _ _ _ _ at.loop-i.invariant (take_one _ _ at.loop-i.invariant.ready (stem_next (steps_of start.args.model.now) (steps_of start.args.rule.now)) at.loop-i.i (omega arith))
+    going_full _ _ _ _ c.loop-i.invariant (take_one _ _ c.loop-i.invariant.ready (stem_next (steps_of c.args.model.now) (steps_of c.args.rule.now)) c.loop-i.i (omega arith))
     c.expand.ensures c.in_default.is
 
 pub loop-i-preserved : goal.loop-i-preserved
 loop-i-preserved c =
-    let at = c in
-    let start = at in
-    going_on _ _ _ _ at.loop-i.invariant (take_one _ _ at.loop-i.invariant.ready (stem_next (steps_of start.args.model.now) (steps_of start.args.rule.now)) at.loop-i.i (omega arith))
+    going_on _ _ _ _ c.loop-i.invariant (take_one _ _ c.loop-i.invariant.ready (stem_next (steps_of c.args.model.now) (steps_of c.args.rule.now)) c.loop-i.i (omega arith))
     c.expand.ensures c.in-Ended.is
 
 pub returns : goal.returns
 returns c =
-    let at = c in
-    let start = at in
-    going_end _ _ at.loop-i.invariant (take_none _ _ at.loop-i.invariant.ready (stem_next (steps_of start.args.model.now) (steps_of start.args.rule.now)) at.loop-i.i (omega arith))
+    going_end _ _ c.loop-i.invariant (take_none _ _ c.loop-i.invariant.ready (stem_next (steps_of c.args.model.now) (steps_of c.args.rule.now)) c.loop-i.i (omega arith))

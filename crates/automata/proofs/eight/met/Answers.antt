@@ -7,6 +7,5 @@ use Rattle.automata.proofs.eight.met.Goals as goal
 
 pub returns : goal.returns
 returns c =
-    let start = c in
-    ap (λ (x : ℕ). bit_or start.args.before (bit_and start.args.reach x)) c.columns.ensures
-    ∙ or_and_rows 8 start.args.before start.args.reach start.args.accepting start.ranges.before.fits start.ranges.reach.fits start.ranges.accepting.fits
+    ap (λ (x : ℕ). bit_or c.args.before (bit_and c.args.reach x)) c.columns.ensures
+    ∙ or_and_rows 8 c.args.before c.args.reach c.args.accepting c.ranges.before.fits c.ranges.reach.fits c.ranges.accepting.fits

@@ -15,17 +15,15 @@ loop-p-init c = (omega arith, rows_below_none 8 c.args.rows c.args.c)
 
 pub loop-p-preserved : goal.loop-p-preserved
 loop-p-preserved c =
-    let start = c in
     let loop = c.loop-p in
-    let rows = start.args.rows in
+    let rows = c.args.rows in
     let fits : Fits w8 (get_or rows loop.p 0) = search rules in (
       omega arith,
-      c.led_on-out.ensures ∙ ap (λ (r : ℕ). led_on 8 r start.args.c loop.p (get_or rows loop.p 0)) loop.invariant.1
-          ∙ rows_below_more 8 rows start.args.c loop.p (omega arith) fits.fits,
+      c.led_on-out.ensures ∙ ap (λ (r : ℕ). led_on 8 r c.args.c loop.p (get_or rows loop.p 0)) loop.invariant.1
+          ∙ rows_below_more 8 rows c.args.c loop.p (omega arith) fits.fits,
     )
 
 pub returns : goal.returns
 returns c =
-    let start = c in
-    let rows = start.args.rows in
-    c.loop-p.invariant.1 ∙ ap (rows_below 8 rows start.args.c) (omega arith) ∙ rows_below_all 8 rows start.args.c
+    let rows = c.args.rows in
+    c.loop-p.invariant.1 ∙ ap (rows_below 8 rows c.args.c) (omega arith) ∙ rows_below_all 8 rows c.args.c

@@ -21,6 +21,5 @@ loop-k-preserved c =
 pub returns : goal.returns
 unfolding closure
 returns c =
-    let start = c in
-    let r = listed 16 start.args.r in
-    c.loop-k.invariant.1 r start.with_itself-out.ensures ∙ ap (paths_over 16 r) (omega arith)
+    let r = listed 16 c.args.r in
+    c.loop-k.invariant.1 r c.with_itself-out.ensures ∙ ap (paths_over 16 r) (omega arith)

@@ -24,14 +24,13 @@ overflow_mul-out c = search (rules, lowest_times_fits c.ranges.y)
 
 pub loop-q-preserved : goal.loop-q-preserved
 loop-q-preserved c =
-    let start = c in
     let loop = c.loop-q in
-    let args = start.args in
+    let args = c.args in
     let r : (q : ℕ) → Fits w16 (get_or args.r q 0) = λ q. search rules in
     let t : (q : ℕ) → Fits w16 (get_or args.c q 0) = λ q. search rules in
     filled_more _ _ 16 loop.out loop.q _ loop.invariant (omega arith)
-    (ap (bit_or (get_or args.r loop.q 0)) (times_listed 16 args.c (λ q. (t q).fits) loop.q (omega arith) args.p args.y start.requires)
-    ∙ or_listed 16 args.r (λ q. (r q).fits) loop.q (omega arith) _ (weighed_lt (pair 16 (listed 16 args.c) loop.q args.p) start.ranges.y.fits))
+    (ap (bit_or (get_or args.r loop.q 0)) (times_listed 16 args.c (λ q. (t q).fits) loop.q (omega arith) args.p args.y c.requires)
+    ∙ or_listed 16 args.r (λ q. (r q).fits) loop.q (omega arith) _ (weighed_lt (pair 16 (listed 16 args.c) loop.q args.p) c.ranges.y.fits))
 
 pub returns : goal.returns
 unfolding led_on

@@ -19,9 +19,8 @@ loop-q-init c = filled_none _ _ 16 _ refl
 
 pub loop-q-preserved : goal.loop-q-preserved
 loop-q-preserved c =
-    let start = c in
     let loop = c.loop-q in
-    let args = start.args in
+    let args = c.args in
     let before : (q : ℕ) → Fits w16 (get_or args.before q 0) = λ q. search rules in
     let reach : (q : ℕ) → Fits w16 (get_or args.reach q 0) = λ q. search rules in
     filled_more _ _ 16 loop.out loop.q _ loop.invariant (omega arith)

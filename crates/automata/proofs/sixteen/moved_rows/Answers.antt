@@ -19,18 +19,16 @@ loop-p-init c = (omega arith, rows_below_none 16 c.args.rows (listed 16 c.args.c
 
 pub loop-p-preserved : goal.loop-p-preserved
 loop-p-preserved c =
-    let start = c in
     let loop = c.loop-p in
-    let rows = start.args.rows in
+    let rows = c.args.rows in
     let fits : Fits w16 (get_or rows loop.p 0) = search rules in (
       omega arith,
-      c.led_on-next.ensures ∙ ap (λ (r : ℕ). led_on 16 r (listed 16 start.args.c) loop.p (get_or rows loop.p 0)) loop.invariant.1
-          ∙ rows_below_more 16 rows (listed 16 start.args.c) loop.p (omega arith) fits.fits,
+      c.led_on-next.ensures ∙ ap (λ (r : ℕ). led_on 16 r (listed 16 c.args.c) loop.p (get_or rows loop.p 0)) loop.invariant.1
+          ∙ rows_below_more 16 rows (listed 16 c.args.c) loop.p (omega arith) fits.fits,
     )
 
 pub returns : goal.returns
 returns c =
-    let start = c in
-    let rows = start.args.rows in
-    let pairs = listed 16 start.args.c in
+    let rows = c.args.rows in
+    let pairs = listed 16 c.args.c in
     c.loop-p.invariant.1 ∙ ap (rows_below 16 rows pairs) (omega arith) ∙ rows_below_all 16 rows pairs

@@ -19,9 +19,8 @@ loop-q-init c = filled_none _ _ 16 _ refl
 
 pub loop-q-preserved : goal.loop-q-preserved
 loop-q-preserved c =
-    let start = c in
     let loop = c.loop-q in
-    let rows = start.args.r in
+    let rows = c.args.r in
     let h : loop.q < 16 = omega arith in
     let r : (q : ℕ) → Fits w16 (get_or rows q 0) = λ q. search rules in
     filled_more _ _ 16 loop.out loop.q _ loop.invariant (omega arith)

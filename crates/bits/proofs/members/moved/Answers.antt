@@ -14,11 +14,10 @@ loop-q-init c = (omega arith, moved_none 8 c.args.row c.args.x)
 
 pub loop-q-preserved : goal.loop-q-preserved
 loop-q-preserved c =
-    let start = c in
     let loop = c.loop-q in
-    let fits : Fits w8 (get_or start.args.row loop.q 0) = search rules in (
+    let fits : Fits w8 (get_or c.args.row loop.q 0) = search rules in (
       omega arith,
-      moved_turn 8 start.args.row start.args.x loop.q fits.fits loop.invariant.1 c.has.ensures
+      moved_turn 8 c.args.row c.args.x loop.q fits.fits loop.invariant.1 c.has.ensures
           (elim c.if-has.branch [ then-has w ↦ inl (w.if-has.true, w.out-is) | else-has w ↦ inr (w.if-has.false, w.out-is) ]),
     )
 

@@ -14,11 +14,10 @@ loop-q-init c = (omega arith, moved_none 16 c.args.row c.args.x)
 
 pub loop-q-preserved : goal.loop-q-preserved
 loop-q-preserved c =
-    let start = c in
     let loop = c.loop-q in
-    let fits : Fits w16 (get_or start.args.row loop.q 0) = search rules in (
+    let fits : Fits w16 (get_or c.args.row loop.q 0) = search rules in (
       omega arith,
-      moved_turn 16 start.args.row start.args.x loop.q fits.fits loop.invariant.1 c.has16.ensures
+      moved_turn 16 c.args.row c.args.x loop.q fits.fits loop.invariant.1 c.has16.ensures
           (elim c.if-has16.branch [ then-has16 w ↦ inl (w.if-has16.true, w.out-is) | else-has16 w ↦ inr (w.if-has16.false, w.out-is) ]),
     )
 
