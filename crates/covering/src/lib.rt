@@ -105,11 +105,11 @@ fn scan(
     missing: Pairs8,
     present: Pairs8,
 ) -> bool
-    requires n_in_bounds { (2 * n ≤ length contexts.now) × (16 + n ≤ length chains.old) × (n ≤ 65535) }
+    requires roomy { (2 * n ≤ length contexts.now) × (16 + n ≤ length chains.old) × (n ≤ 65535) }
     requires chained { Chained (covers rows) (held n links.now contexts.now) [] chains.old }
-    requires state_value { (state ≡ link_state link) × (of_pairs missing ≡ lacking rows (of_pairs c)) × (of_pairs present ≡ having rows (of_pairs c)) }
+    requires of_candidate { (state ≡ link_state link) × (of_pairs missing ≡ lacking rows (of_pairs c)) × (of_pairs present ≡ having rows (of_pairs c)) }
     ensures value { result ≡ covered (covers rows) (held n links.now contexts.now) (record { link = link; context = of_pairs c }) }
-    ensures chained_2 { Chained (covers rows) (held n links.now contexts.now) (only (not result) (record { link = link; context = of_pairs c })) chains.new }
+    ensures chained_after { Chained (covers rows) (held n links.now contexts.now) (only (not result) (record { link = link; context = of_pairs c })) chains.new }
 {
     let mut place = state as usize;
     let mut next = chains[place] as usize;
@@ -173,10 +173,10 @@ pub fn covered(
     c: Pairs8,
     rows: u64,
 ) -> bool
-    requires n_in_bounds { (n ≤ length links.now) × (2 * n ≤ length contexts.now) × (2 * (16 + n) ≤ length chains.old) × (length chains.old ≤ 131102) }
+    requires roomy { (n ≤ length links.now) × (2 * n ≤ length contexts.now) × (2 * (16 + n) ≤ length chains.old) × (length chains.old ≤ 131102) }
     requires chained { Chained (covers rows) (held n links.now contexts.now) [] chains.old }
     ensures value { result ≡ covered (covers rows) (held n links.now contexts.now) (record { link = link; context = of_pairs c }) }
-    ensures chained_2 { Chained (covers rows) (held n links.now contexts.now) (only (not result) (record { link = link; context = of_pairs c })) chains.new }
+    ensures chained_after { Chained (covers rows) (held n links.now contexts.now) (only (not result) (record { link = link; context = of_pairs c })) chains.new }
 {
     let state = entries::link_state(link);
     let missing = lacking(rows, c);

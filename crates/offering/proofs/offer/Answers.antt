@@ -6,9 +6,9 @@ use Rattle.offering.proofs.offer.Goals as goal
 pub returns-then-covered : goal.returns-then-covered
 returns-then-covered c =
     let scan = c.covered in
-    offered_covered _ c.requires _ scan.ensures.value scan.ensures.chained_2 c.if-covered.true
+    offered_covered _ c.requires _ scan.ensures.value scan.ensures.chained_after c.if-covered.true
 
 pub returns : goal.returns
 returns c =
     let scan = c.covered in
-    offered_new _ c.requires _ scan.ensures.value scan.ensures.chained_2 c.if-covered.false (covers_state _ _) scan.auto.chains c.append.ensures
+    offered_new _ c.requires _ scan.ensures.value scan.ensures.chained_after c.if-covered.false (covers_state _ _) scan.auto.chains c.append.ensures
