@@ -88,8 +88,8 @@ pub more_kept : {model rule : List ℕ} {S P S' P' : ℕ} {old old' : Buffers} {
     → number_of r ≡ 0 → S ≤ S' → P ≤ P' → Made model rule S' P' old' → Kept r r' new new'
 more_kept {model} {rule} {S} {P} {S'} {P'} {old} {old'} d e z l k m =
     let zero = zero_of (came d) z in
-    let (r-is, New-is) = made_by model rule S' P' old' m (came e) in
+    let (r_is, new_is) = made_by model rule S' P' old' m (came e) in
     let walk = walk_of model rule S P in
-    rw (r-is, New-is, zero.answer_is S' P', zero.left_is)
+    rw (r_is, new_is, zero.answer_is S' P', zero.left_is)
     (subst⁻¹ (λ (more : Walked). Kept (answer_by S' P' (counts_of walk) walk.finish.verdict) (answer_by S' P' (counts_of more) more.finish.verdict) (left_by walk P old) (left_by more P' old'))
     (more_room (spelled model) (spelled rule) S P S' P' zero.concludes l k) (left_alike walk S' P P' old old'))
