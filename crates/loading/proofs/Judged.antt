@@ -87,7 +87,7 @@ module _ {f : Checked} (g : Checked) (lends : Bool) where
 
 -- ---- both files read
 
-pub loaded : {model rule : List ℕ} {enough : Bool} {f g : Checked} {o : Outset} {model-table wide rule-table : List (List ℕ)}
-    → f ≡ judged 16 model → model-table ≡ table_of model (good_records 16 model) → g ≡ judged 8 rule → wide ≡ table_of rule (good_records 8 rule) → rule-table ≡ narrow wide
-    → o ≡ outset_of f g enough → Loads model rule enough o model-table rule-table
+pub loaded : {model rule : List ℕ} {enough : Bool} {f g : Checked} {o : Outset} {model_table wide rule_table : List (List ℕ)}
+    → f ≡ judged 16 model → model_table ≡ table_of model (good_records 16 model) → g ≡ judged 8 rule → wide ≡ table_of rule (good_records 8 rule) → rule_table ≡ narrow wide
+    → o ≡ outset_of f g enough → Loads model rule enough o model_table rule_table
 loaded f-is model_read g-is rule_read narrowed o_is = record { outset = rw (o_is, f-is, g-is); model_read = model_read; rule_read = rw (narrowed, rule_read) }

@@ -24,7 +24,7 @@ outset_of (Good a) (Refused number place) enough = Stops (refusal_of 1 (Refused 
 outset_of (Good a) (Good b) enough = cond enough (Walks a b) (Stops (refusal 7 0 0))
 
 -- both files are read, and judged with whether enough is lent; the tables hold what was read
-pub record Loads (model rule : List ℕ) (enough : Bool) (r : Outset) (model-table rule-table : List (List ℕ)) : Type 0 where
+pub record Loads (model rule : List ℕ) (enough : Bool) (r : Outset) (model_table rule_table : List (List ℕ)) : Type 0 where
   pub outset : r ≡ outset_of (judged 16 model) (judged 8 rule) enough
-  pub model_read : model-table ≡ table_of model (good_records 16 model)
-  pub rule_read : rule-table ≡ narrow (table_of rule (good_records 8 rule))
+  pub model_read : model_table ≡ table_of model (good_records 16 model)
+  pub rule_read : rule_table ≡ narrow (table_of rule (good_records 8 rule))

@@ -57,8 +57,8 @@ one_late which place a b at_a at_b here = rw here (λ is late. omega (arith, is,
 
 -- a copy elsewhere
 pub copied : {A : Type 0} (which : ℕ) {block a b : A} → block ≡ file_of which a b → (block ≡ a → ⊥) → (block ≡ b → ⊥) → ⊥
-copied which {block} {a} {b} is not_a not-b = at (eqb which 1) is
+copied which {block} {a} {b} is not_a not_b = at (eqb which 1) is
   where
     at : (t : Bool) → block ≡ cond t b a → ⊥
-    at true e = not-b e
+    at true e = not_b e
     at false e = not_a e

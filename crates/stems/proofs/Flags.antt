@@ -54,7 +54,7 @@ module _ (largest : Bool) (entry : ℕ) where
       → state ≡ stem_state entry → target ≡ stem_target entry → eight ≡ set_of (λ j. target_covers largest target (8 * g + j)) 8
       → RaisedBelow (g + 1) largest entry old (set new (32 * state + g) (bit_or (get_or new (32 * state + g) 0) eight))
   unfolding stem_covers
-  raised_more {state} {target} g {old} {new} {eight} r long l at_state at_Target e =
+  raised_more {state} {target} g {old} {new} {eight} r long l at_state at_target e =
       record { long = length-set new place byte ∙ r.long; flag = λ i h. at i h (ℕ_discrete (i / 8) place) }
     where
       place : ℕ
@@ -78,7 +78,7 @@ module _ (largest : Bool) (entry : ℕ) where
           ap₂ (λ (a b : Bool). (a && target_covers largest (stem_target entry) (stem_target i)) && b)
           (eq-eqb (stem_state entry) (stem_state i) (lies i h here).0) (lt-ltb (stem_target i / 8) (g + 1) (omega (arith, (lies i h here).1)))
           ∙ and-true (target_covers largest (stem_target entry) (stem_target i))
-          ∙ ap₂ (target_covers largest) (sym at_Target) (lies i h here).2
+          ∙ ap₂ (target_covers largest) (sym at_target) (lies i h here).2
 
       -- another candidate that the entry covers is of another group
       other : (i : ℕ) → i < 4096 → (i / 8 ≡ place → ⊥) → both i g ≡ both i (g + 1)
