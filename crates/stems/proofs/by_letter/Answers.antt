@@ -16,12 +16,11 @@ returns-in_default c =
     c.offer_at.ensures c.in_default.is
 
 pub loop-q-preserved : goal.loop-q-preserved
-loop-q-preserved c =
-(
-      search rules,
-      going_on _ _ _ _ c.loop-q.invariant.1 (gather_on _ _ (at_state c.args.by) 16 c.loop-q.q _ (omega arith))
-          c.offer_at.ensures c.in-Ended.is,
-    )
+loop-q-preserved c = (
+  search rules,
+  going_on _ _ _ _ c.loop-q.invariant.1 (gather_on _ _ (at_state c.args.by) 16 c.loop-q.q _ (omega arith))
+      c.offer_at.ensures c.in-Ended.is,
+)
 
 pub returns : goal.returns
 returns c = going_end _ _ c.loop-q.invariant.1 (gather_done _ _ (at_state c.args.by) 16 c.loop-q.q _ (omega arith))

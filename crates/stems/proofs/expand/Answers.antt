@@ -22,16 +22,15 @@ pub returns-in_default : goal.returns-in_default
 unfolding by_letter
 returns-in_default c =
     going_full _ _ _ _ c.loop-x.invariant.1 (gather_on _ _ (by_letter c.args.model.now c.args.rule.now c.args.i (get_or c.args.table.now c.args.i 0)) 16 c.loop-x.x _ (omega arith))
-    (rw c.step.ensures c c.by_letter.ensures) c.in_default.is
+    (rw c.step.ensures at c.by_letter.ensures) c.in_default.is
 
 pub loop-x-preserved : goal.loop-x-preserved
 unfolding by_letter
-loop-x-preserved c =
-(
-      search rules,
-      going_on _ _ _ _ c.loop-x.invariant.1 (gather_on _ _ (by_letter c.args.model.now c.args.rule.now c.args.i (get_or c.args.table.now c.args.i 0)) 16 c.loop-x.x _ (omega arith))
-          (rw c.step.ensures c c.by_letter.ensures) c.in-Ended.is,
-    )
+loop-x-preserved c = (
+  search rules,
+  going_on _ _ _ _ c.loop-x.invariant.1 (gather_on _ _ (by_letter c.args.model.now c.args.rule.now c.args.i (get_or c.args.table.now c.args.i 0)) 16 c.loop-x.x _ (omega arith))
+      (rw c.step.ensures at c.by_letter.ensures) c.in-Ended.is,
+)
 
 pub returns : goal.returns
 returns c =
