@@ -34,6 +34,7 @@ pub enum Step {
 }
 
 // What the bytes of a T say: all three are held to their limits, in any order, since one number serves them.
+#[tactic(auto, unfolding(crate::specs::Steps::record_of))]
 fn transition(source: u8, letter: u8, target: u8, states: u8) -> Record
     ensures { result ≡ record_of states kind_t source letter target }
 {
@@ -109,6 +110,7 @@ fn with(set: u16, q: usize) -> u16
 }
 
 // What an I adds: the start, unless there is one already.
+#[tactic(auto, unfolding(crate::specs::Steps::initial_step))]
 fn add_initial(head: Head, start: u8) -> Step
     requires { start < 16 }
     ensures { result ≡ initial_step head start }

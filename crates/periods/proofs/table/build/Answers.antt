@@ -19,16 +19,6 @@ word_at-word-requires c =
     let ready = (build_on _ _ _ _ _ c.loop-more.invariant.1 c.in-Ended.is c.expand.ensures c.expand.auto.links c.expand.auto.contexts c.expand.auto.chains).ready.roomy in
     (omega (arith, ready.within, ready.small), omega (arith, ready.within, ready.links_fit), omega (arith, ready.within, ready.contexts_fit))
 
-pub overflow_add-i : goal.overflow_add-i
-overflow_add-i c =
-    let ready = (build_on _ _ _ _ _ c.loop-more.invariant.1 c.in-Ended.is c.expand.ensures c.expand.auto.links c.expand.auto.contexts c.expand.auto.chains).ready.roomy in
-    omega (arith, ready.within, ready.small)
-
-pub loop-more-smaller : goal.loop-more-smaller
-loop-more-smaller c =
-    let ready = (build_on _ _ _ _ _ c.loop-more.invariant.1 c.in-Ended.is c.expand.ensures c.expand.auto.links c.expand.auto.contexts c.expand.auto.chains).ready.roomy in
-    omega (arith, ready.within, ready.small)
-
 pub loop-more-preserved : goal.loop-more-preserved
 loop-more-preserved c =
     (omega (arith, c.word_at-word.ensures.0), build_next _ _ _ _ (build_on _ _ _ _ _ c.loop-more.invariant.1 c.in-Ended.is c.expand.ensures c.expand.auto.links c.expand.auto.contexts c.expand.auto.chains) c.if-i-more.false (word_entry _ _ _ c.word_at-word.ensures.0 c.word_at-word.ensures.1 c.word_at-word.ensures.2))

@@ -14,4 +14,4 @@ invariant-loop-more l = (l.word.state < 16)
     l.initial.links l.links l.initial.contexts l.contexts l.initial.chains l.chains l.count
 
 abbrev pub decreases-loop-more : goal.decreases-loop-more
-decreases-loop-more l = 65535 - l.i
+decreases-loop-more l = 65536 - l.i
