@@ -1,2 +1,3 @@
--- What the contracts rule out.
+-- The laws of one record.
+pub mod Numbers
 pub mod Wrong

@@ -1,3 +1,4 @@
 -- The definitions that the contracts cite.
 pub mod Bytes
+pub mod Reason
 pub mod Steps

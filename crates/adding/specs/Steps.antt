@@ -1,26 +1,31 @@
 -- What one record says, and what it adds to what the records before it said. Assumes nothing.
-use Rattle.std.specs.Prelude.{not, ◌&&◌, ◌||◌, cond, List, [], ℕ, suc, ◌^◌, ◌<◌, max, eqb, ltb, get_or, set}
+use Rattle.std.specs.Prelude.{not, ◌&&◌, cond, List, [], ℕ, suc, ◌^◌, ◌<◌, max, eqb, ltb, get_or, set, Result, Ok, Err}
+use Rattle.std.specs.Result.{result_map_both}
 use Rattle.bits.specs.Bits.{bit}
 use Rattle.bits.specs.Sets.{union}
 use Rattle.automata.specs.declared.Head.{Head}
 use Rattle.automata.specs.Loaded.{cell}
 use Rattle.adding.specs.declared.Edge.{Edge}
+use Rattle.adding.specs.declared.reason.Reason.{Reason}
+use Rattle.adding.specs.declared.reason.Reason.TheVariants.{UnknownKind, ByteNotZero, PastLimit, ThereAlready}
 use Rattle.adding.specs.declared.Record.{Record}
-use Rattle.adding.specs.declared.Record.TheVariants.{Initial, Accepting, Transition, Wrong}
-use Rattle.adding.specs.declared.Step.{Step}
-use Rattle.adding.specs.declared.Step.TheVariants.{On, Stop}
+use Rattle.adding.specs.declared.Record.TheVariants.{Initial, Accepting, Transition}
 use Rattle.adding.specs.Bytes.{byte, kind_i, kind_f, kind_t}
 
--- what four bytes say, or the refusal among 2, 3 and 4 that they meet
-unfoldable pub record_of : ℕ → ℕ → ℕ → ℕ → ℕ → Record
+-- the state that an I or an F names: the two bytes that must be 0 come before its limit
+unfoldable pub lone_state : ℕ → ℕ → ℕ → ℕ → Result ℕ Reason
+lone_state states q y z = cond (eqb y 0 && eqb z 0) (cond (ltb q states) (Ok q) (Err PastLimit)) (Err ByteNotZero)
+
+-- what four bytes say, or the refusal that they meet by themselves
+unfoldable pub record_of : ℕ → ℕ → ℕ → ℕ → ℕ → Result Record Reason
 record_of states kind a b c =
     cond (eqb kind kind_t)
-    (cond (ltb a states && (ltb b 16 && ltb c states)) (Transition (record { source = a; letter = b; target = c })) (Wrong 4))
-    (cond (eqb kind kind_i || eqb kind kind_f)
-    (cond (eqb b 0 && eqb c 0) (cond (ltb a states) (cond (eqb kind kind_i) (Initial a) (Accepting a)) (Wrong 4)) (Wrong 3))
-    (Wrong 2))
+    (cond (ltb a states && (ltb b 16 && ltb c states)) (Ok (Transition (record { source = a; letter = b; target = c }))) (Err PastLimit))
+    (cond (eqb kind kind_i) (result_map_both Initial (λ e. e) (lone_state states a b c))
+    (cond (eqb kind kind_f) (result_map_both Accepting (λ e. e) (lone_state states a b c))
+    (Err UnknownKind)))
 
-abbrev pub record_at : ℕ → List ℕ → ℕ → Record
+abbrev pub record_at : ℕ → List ℕ → ℕ → Result Record Reason
 record_at states s i = record_of states (byte s i 0) (byte s i 1) (byte s i 2) (byte s i 3)
 
 -- its states and its letter are below 16
@@ -28,27 +33,27 @@ abbrev pub Sized : Record → Type 0
 Sized (Initial q) = q < 16
 Sized (Accepting q) = q < 16
 Sized (Transition e) = (e.source < 16) × (e.letter < 16) × (e.target < 16)
-Sized (Wrong k) = Unit
 
--- the head that comes of one more record, its start 16 until one is named; 5 where the record was there before
-unfoldable pub initial_step : Head → ℕ → Step
-initial_step h q = cond (not (eqb h.start 16)) (Stop 5) (On (record { start = q; accepting = h.accepting; states = max h.states (suc q) }))
+-- the head that comes of one more record, its start 16 until one is named, unless the record was there before
+unfoldable pub initial_step : Head → ℕ → Result Head Reason
+initial_step h q =
+    cond (not (eqb h.start 16)) (Err ThereAlready) (Ok (record { start = q; accepting = h.accepting; states = max h.states (suc q) }))
 
-unfoldable pub accepting_step : Head → ℕ → Step
+unfoldable pub accepting_step : Head → ℕ → Result Head Reason
 accepting_step h q =
-    cond (bit h.accepting q) (Stop 5)
-    (On (record { start = h.start; accepting = union 16 h.accepting (2 ^ q); states = max h.states (suc q) }))
+    cond (bit h.accepting q) (Err ThereAlready)
+    (Ok (record { start = h.start; accepting = union 16 h.accepting (2 ^ q); states = max h.states (suc q) }))
 
-unfoldable pub transition_step : List (List ℕ) → Head → Edge → Step
+unfoldable pub transition_step : List (List ℕ) → Head → Edge → Result Head Reason
 transition_step t h e =
-    cond (bit (cell t e.letter e.source) e.target) (Stop 5)
-    (On (record { start = h.start; accepting = h.accepting; states = max h.states (suc (max e.source e.target)) }))
+    cond (bit (cell t e.letter e.source) e.target) (Err ThereAlready)
+    (Ok (record { start = h.start; accepting = h.accepting; states = max h.states (suc (max e.source e.target)) }))
 
-abbrev pub step_by : List (List ℕ) → Head → Record → Step
-step_by t h (Initial q) = initial_step h q
-step_by t h (Accepting q) = accepting_step h q
-step_by t h (Transition e) = transition_step t h e
-step_by t h (Wrong k) = Stop k
+abbrev pub step_by : List (List ℕ) → Head → Result Record Reason → Result Head Reason
+step_by t h (Ok (Initial q)) = initial_step h q
+step_by t h (Ok (Accepting q)) = accepting_step h q
+step_by t h (Ok (Transition e)) = transition_step t h e
+step_by t h (Err reason) = Err reason
 
 -- the table with a transition: its target is a member of its cell
 unfoldable pub cell_with : List (List ℕ) → Edge → List (List ℕ)
@@ -59,12 +64,8 @@ cell_with t e =
 unfoldable pub transition_table : List (List ℕ) → Edge → List (List ℕ)
 transition_table t e = cond (bit (cell t e.letter e.source) e.target) t (cell_with t e)
 
-abbrev pub table_by : List (List ℕ) → Record → List (List ℕ)
-table_by t (Initial q) = t
-table_by t (Accepting q) = t
-table_by t (Transition e) = transition_table t e
-table_by t (Wrong k) = t
-
-abbrev pub stop_of : Step → ℕ
-stop_of (On h) = 0
-stop_of (Stop k) = k
+abbrev pub table_by : List (List ℕ) → Result Record Reason → List (List ℕ)
+table_by t (Ok (Initial q)) = t
+table_by t (Ok (Accepting q)) = t
+table_by t (Ok (Transition e)) = transition_table t e
+table_by t (Err reason) = t

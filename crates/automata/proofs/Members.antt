@@ -1,6 +1,6 @@
--- One member of a set: taken out of it, and put in by a loop over the states. Assumes nothing.
-use mathlib.Core.Bool.{Bool, true, false, ◌&&◌}
-use mathlib.Core.Path.{◌≡◌, refl, sym, ap, ◌∙◌}
+-- One member of a set: taken out of it, and put in. Assumes nothing.
+use mathlib.Core.Bool.{Bool, true, ◌&&◌}
+use mathlib.Core.Path.{◌≡◌, sym, ap, ◌∙◌}
 use Prim.Native.Nat.{ℕ, ◌+◌, ◌*◌, ◌%◌, ◌^◌, ◌<◌}
 use native.Mathlib.Nat.{lt_of_le_of_lt, one-mul, div-one, mod-eq_of_lt}
 use native.Mathlib.Numerals.{add-one}
@@ -13,13 +13,7 @@ use mir.Val.{Fits, bool_byte}
 use Rattle.bits.specs.Bits.{digit, pack, bit, weight, set_of}
 use Rattle.bits.proofs.Truth.{bool_same, and_left, and_right, and_both}
 use Rattle.bits.proofs.Bits.{digit_bit, bit_ext, set_of_lt}
-use Rattle.bits.proofs.Operations.{bit_and_lem, bit_power, weighed_lt, bit_weighed}
-
--- `b as u8`
-pub as_weight : (b : Bool) → bool_byte b ≡ weight b
-unfolding weight
-as_weight true = refl
-as_weight false = refl
+use Rattle.bits.proofs.Operations.{bit_and_lem, bit_power, weighed_lt, bit_weighed, shifted_weight}
 
 -- ---- taken out
 
@@ -52,19 +46,14 @@ and_power n x q h =
 pub shifted_one : (n q : ℕ) → q < n → 1 * 2 ^ q % 2 ^ n ≡ 2 ^ q
 shifted_one n q h = ap (λ (y : ℕ). y % 2 ^ n) (one-mul (2 ^ q)) ∙ mod-eq_of_lt (pow-lt h)
 
--- `x & (1 << q)`
-pub and_shifted_one : (n x q : ℕ) → q < n → bit_and x (1 * 2 ^ q % 2 ^ n) ≡ weight (bit x q) * 2 ^ q
-and_shifted_one n x q h = ap (bit_and x) (shifted_one n q h) ∙ and_power n x q h
-
 -- ---- put in
 
 -- the next state, which is put in exactly if it has f
-pub gathered_more : (f : ℕ → Bool) (q z : ℕ) → z ≡ weight (f q) * 2 ^ q → bit_or (set_of f q) z ≡ set_of f (q + 1)
+pub put_in : (f : ℕ → Bool) (q : ℕ) → bit_or (set_of f q) (weight (f q) * 2 ^ q) ≡ set_of f (q + 1)
 unfolding set_of pack
-gathered_more f q z e = ap (bit_or (set_of f q)) e ∙ or_shifted_r (weight (f q)) q (set_of f q) (set_of_lt f q) ∙ rw add-one
+put_in f q = or_shifted_r (weight (f q)) q (set_of f q) (set_of_lt f q) ∙ rw add-one
 
 -- the test of q as a truth value, shifted to its place
 pub shifted_more : (n : ℕ) (f : ℕ → Bool) (q : ℕ) {b : Bool} → q < n → b ≡ f q → bit_or (set_of f q) (bool_byte b * 2 ^ q % 2 ^ n) ≡ set_of f (q + 1)
 shifted_more n f q {b} l e =
-    gathered_more f q (bool_byte b * 2 ^ q % 2 ^ n)
-    (ap (λ (x : ℕ). x * 2 ^ q % 2 ^ n) (as_weight b) ∙ mod-eq_of_lt (weighed_lt b (pow-lt l)) ∙ ap (λ (c : Bool). weight c * 2 ^ q) e)
+    ap (bit_or (set_of f q)) (shifted_weight n b q l ∙ ap (λ (c : Bool). weight c * 2 ^ q) e) ∙ put_in f q

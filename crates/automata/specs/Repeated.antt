@@ -2,11 +2,19 @@
 -- it through acceptance from there, and copies of it back). Assumes nothing.
 use Rattle.std.specs.Prelude.{◌&&◌, ℕ, zero, suc, ◌*◌, ◌^◌}
 use Rattle.bits.specs.Bits.{weight, set_of, any}
-use Rattle.bits.specs.Sets.{union, meets}
+use Rattle.bits.specs.Sets.{union, meet, meets, moved}
 use Rattle.bits.specs.Pairs.{pair, row, pairs}
 use Rattle.acceptance.specs.Contexts.{Context}
 
 module _ (n : ℕ) where
+  -- the pairs of c, each row moved by the step that the pairs of `by` are
+  abbrev pub moved_rows : ℕ → ℕ → ℕ
+  moved_rows by c = pairs n (λ q. moved n (pair n by) (row n c q))
+
+  -- the pairs of c, and those of d that end in a member of a
+  abbrev pub met : ℕ → ℕ → ℕ → ℕ
+  met c d a = pairs n (λ q. union n (row n c q) (meet n (row n d q) a))
+
   -- the pairs of r, and those of c that end in p, led on from p to the members of y
   unfoldable pub led_on : ℕ → ℕ → ℕ → ℕ → ℕ
   led_on r c p y = pairs n (λ q. union n (row n r q) (weight (pair n c q p) * y))

@@ -1,8 +1,9 @@
 //! A loaded automaton: a table of sets, by letter and then by state, beside a head; what it does to sets and contexts.
 #![tactic(auto)]
 
-pub mod eight;
-pub mod sixteen;
+pub mod contexts;
+pub mod relations;
+pub mod tables;
 
 // The initial state, the accepting set, and one more than the largest state number that a record names.
 #[derive(Clone, Copy)]
@@ -12,16 +13,21 @@ pub struct Head {
     pub states: u8,
 }
 
-// What a word leads to from each of eight states: bit 8q + q' of the first says that q reaches q', of the second through acceptance.
+// A loaded automaton: the sets that its letters lead to, by letter and then by state, and its head.
 #[derive(Clone, Copy)]
-pub struct Pairs8 {
-    pub reach: u64,
-    pub through: u64,
+pub struct Automaton<T> {
+    pub table: T,
+    pub head: Head,
 }
 
-// The same of sixteen states, a row for each.
+// The two of a question: a model of up to sixteen states, and a rule of up to eight.
+pub type Model = Automaton<[[u16; 16]; 16]>;
+
+pub type Rule = Automaton<[[u8; 8]; 16]>;
+
+// What a word leads to from each state: the pairs of states that it leads from and to, and those of them that it leads through acceptance.
 #[derive(Clone, Copy)]
-pub struct Rows16 {
-    pub reach: [u16; 16],
-    pub through: [u16; 16],
+pub struct Context<R> {
+    pub reach: R,
+    pub through: R,
 }

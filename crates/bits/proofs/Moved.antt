@@ -1,19 +1,14 @@
 -- A set moved by a step, and the loop that adds the rows of its members one by one. Assumes nothing.
 use mathlib.Core.Bool.{Bool, true, false, ◌&&◌, ◌||◌, or-false}
-use mathlib.Core.List.{List}
-use mathlib.Core.Logic.{◌⊎◌, inl, inr}
-use mathlib.Core.Path.{◌≡◌, sym, ap, ◌∙◌}
+use mathlib.Core.Path.{◌≡◌, sym, ap, ap₂, ◌∙◌}
 use Prim.Native.Nat.{ℕ, ◌+◌, ◌^◌, ◌<◌}
 use native.Mathlib.Numerals.{add-one}
-use lib.Bits.{bit_or, or_lt}
-use lib.ListN.{get_or}
 use lib.Pow.{pow_pos}
 use Rattle.bits.specs.Bits.{bit, set_of, any}
-use Rattle.bits.specs.Sets.{moves_to, moved, by_rows}
+use Rattle.bits.specs.Sets.{union, moves_to, moved}
 use Rattle.bits.proofs.Truth.{and_left, and_right, and_both}
 use Rattle.bits.proofs.Quantifiers.{any_intro, any_elim}
 use Rattle.bits.proofs.Bits.{bit_zero, set_of_lt, bit_set_of, set_of_cong, set_of_is}
-use Rattle.bits.proofs.Operations.{bit_or_lem}
 
 module _ (n : ℕ) (step : ℕ → ℕ → Bool) (x : ℕ) where
   pub moved_lt : moved n step x < 2 ^ n
@@ -37,33 +32,32 @@ module _ (n : ℕ) (step : ℕ → ℕ → Bool) (x : ℕ) where
 
 -- ---- the loop over the states
 
--- what the members of x below q step to
-abbrev pub moved_below : ℕ → List ℕ → ℕ → ℕ → ℕ
-moved_below n rows x q = set_of (moves_to (by_rows rows) x q) n
+module _ (n : ℕ) (step : ℕ → ℕ → Bool) (x : ℕ) where
+  -- what the members of x below q step to
+  unfoldable pub moved_below : ℕ → ℕ
+  moved_below q = set_of (moves_to step x q) n
 
-module _ (n : ℕ) (rows : List ℕ) (x : ℕ) where
-  pub moved_none : 0 ≡ moved_below n rows x 0
-  unfolding moves_to any
-  moved_none = set_of_is (moves_to (by_rows rows) x 0) n 0 (pow_pos n) (λ i h. bit_zero i)
+  pub moved_below_lt : (q : ℕ) → moved_below q < 2 ^ n
+  unfolding moved_below
+  moved_below_lt q = set_of_lt (moves_to step x q) n
 
-  -- where q is a member, its row is added
-  pub moved_taken : (q : ℕ) → get_or rows q 0 < 2 ^ n → bit x q ≡ true → bit_or (moved_below n rows x q) (get_or rows q 0) ≡ moved_below n rows x (q + 1)
-  unfolding moves_to any by_rows
-  moved_taken q l e =
-      let below = moves_to (by_rows rows) x q in
-      set_of_is (moves_to (by_rows rows) x (q + 1)) n (bit_or (set_of below n) (get_or rows q 0)) (or_lt n (set_of below n) (get_or rows q 0) (set_of_lt below n) l)
-      (λ i h. bit_or_lem (set_of below n) (get_or rows q 0) i ∙ ap (λ (b : Bool). b || bit (get_or rows q 0) i) (bit_set_of below n i h) ∙ rw (add-one, e))
+  pub moved_none : 0 ≡ moved_below 0
+  unfolding moved_below moves_to any
+  moved_none = set_of_is (moves_to step x 0) n 0 (pow_pos n) (λ i h. bit_zero i)
 
-  pub moved_passed : (q : ℕ) → bit x q ≡ false → moved_below n rows x q ≡ moved_below n rows x (q + 1)
-  unfolding moves_to any
-  moved_passed q e = set_of_cong (moves_to (by_rows rows) x q) (moves_to (by_rows rows) x (q + 1)) n (λ i h. rw (add-one, e) (sym (or-false _)))
+  -- where q is a member, what it steps to, y, is added
+  pub moved_taken : (q y : ℕ) {out : ℕ} → ((i : ℕ) → i < n → bit y i ≡ step q i) → bit x q ≡ true → out ≡ moved_below q → union n out y ≡ moved_below (q + 1)
+  unfolding moved_below union moves_to any
+  moved_taken q y steps e f =
+      let below = moves_to step x q in
+      ap (λ (o : ℕ). union n o y) f
+      ∙ set_of_cong (λ i. bit (set_of below n) i || bit y i) (moves_to step x (q + 1)) n
+      (λ i h. ap₂ ◌||◌ (bit_set_of below n i h) (steps i h) ∙ rw (add-one, e))
 
-  -- a turn, by whether the test that q is a member was taken
-  pub moved_turn : (q : ℕ) {out next : ℕ} {has : Bool} → get_or rows q 0 < 2 ^ n → out ≡ moved_below n rows x q → has ≡ bit x q
-      → ((has ≡ true) × (next ≡ bit_or out (get_or rows q 0))) ⊎ ((has ≡ false) × (next ≡ out)) → next ≡ moved_below n rows x (q + 1)
-  moved_turn q l e b (inl (t, f)) = f ∙ ap (λ (o : ℕ). bit_or o (get_or rows q 0)) e ∙ moved_taken q l (sym b ∙ t)
-  moved_turn q l e b (inr (t, f)) = f ∙ e ∙ moved_passed q (sym b ∙ t)
+  pub moved_passed : (q : ℕ) → bit x q ≡ false → moved_below q ≡ moved_below (q + 1)
+  unfolding moved_below moves_to any
+  moved_passed q e = set_of_cong (moves_to step x q) (moves_to step x (q + 1)) n (λ i h. rw (add-one, e) (sym (or-false _)))
 
-  pub moved_all_lem : (q : ℕ) {out : ℕ} → out ≡ moved_below n rows x q → q ≡ n → out ≡ moved n (by_rows rows) x
-  unfolding moved
-  moved_all_lem q e f = e ∙ ap (moved_below n rows x) f
+  pub moved_all_lem : (q : ℕ) {out : ℕ} → out ≡ moved_below q → q ≡ n → out ≡ moved n step x
+  unfolding moved moved_below
+  moved_all_lem q e f = e ∙ ap moved_below f

@@ -3,13 +3,14 @@ use mathlib.Core.Bool.{Bool, true, false, not, ◌&&◌, ◌||◌}
 use mathlib.Core.Logic.{⊎_elim}
 use mathlib.Core.Path.{◌≡◌, refl, sym, ap, ap₂, ◌∙◌}
 use Prim.Native.Nat.{ℕ, zero, suc, ◌+◌, ◌-◌, ◌*◌, ◌/◌, ◌%◌, ◌^◌, ◌≤◌, ◌<◌, zero-le, suc-le-suc}
-use native.Mathlib.Nat.{lt_of_le_of_lt, zero-mul, one-mul, pow-suc}
+use native.Mathlib.Nat.{lt_of_le_of_lt, zero-mul, one-mul, pow-suc, mod-eq_of_lt}
 use native.Mathlib.Omega.{arith}
 use lib.Bits.{bit_and, bit_or, and_le_r, and_mask, and_shr, or_shr, and_mod, or_mod}
 use lib.Dec.{eqb, lit<, eqb-zero-suc}
+use lib.Pow.{pow-lt}
 use borrow.Author.Tests.{eqb-true, eq-eqb, ne_eqb}
 use mir.Syntax.{Width}
-use mir.Val.{Fits, bits}
+use mir.Val.{Fits, bits, bool_byte}
 use Rattle.bits.specs.Bits.{digit, pack, bit, weight, set_of}
 use Rattle.bits.proofs.Truth.{bool_same}
 use Rattle.bits.proofs.Digits.{lt_or_ge}
@@ -115,3 +116,15 @@ pub bit_weighed : (b : Bool) (y i : ℕ) → bit (weight b * y) i ≡ (b && bit 
 unfolding weight
 bit_weighed true y i = ap (λ (x : ℕ). bit x i) (one-mul y)
 bit_weighed false y i = ap (λ (x : ℕ). bit x i) (zero-mul y) ∙ bit_zero i
+
+-- ---- a test as a truth value
+
+-- `b as` a number
+pub as_weight : (b : Bool) → bool_byte b ≡ weight b
+unfolding weight
+as_weight true = refl
+as_weight false = refl
+
+-- shifted to the place q
+pub shifted_weight : (n : ℕ) (b : Bool) (q : ℕ) → q < n → bool_byte b * 2 ^ q % 2 ^ n ≡ weight b * 2 ^ q
+shifted_weight n b q l = ap (λ (x : ℕ). x * 2 ^ q % 2 ^ n) (as_weight b) ∙ mod-eq_of_lt (weighed_lt b (pow-lt l))

@@ -1,18 +1,28 @@
 -- Wrong answers that the contracts rule out, on an input each. Assumes nothing.
-use mathlib.Core.Bool.{true, false≢true}
+use mathlib.Core.Bool.{true, false, false≢true}
 use mathlib.Core.List.{List, [], ◌∷◌, ◌++◌}
 use mathlib.Core.Path.{sym}
 use Prim.Native.Nat.{ℕ, ◌+◌, ◌*◌, ◌/◌, ◌%◌}
 use native.Mathlib.Omega.{arith}
+use base.Fml.{Lft}
+use mir.Syntax.{Dict}
+use denote.Param.Laws.{Laws, IsCopy}
+use denote.Struct.Field.{u8-field, u16-field}
+use Rattle.std.specs.declared.clone.Clone.{Ghosts}
 use Rattle.bits.specs.Bits.{digit, pack, bit, weight, set_of, any, all}
-use Rattle.bits.specs.Sets.{subset, moves_to, moved, by_rows}
+use Rattle.bits.specs.Sets.{subset, union, meets, moves_to, moved, by_sets}
 use Rattle.bits.specs.Pairs.{row, pairs, rows_of}
 use Rattle.bits.specs.Fields.{stem_entry, stem_state, stem_letter, period_link, link_state, link_letter}
-use Rattle.bits.proofs.Refuses.{Refuses}
-use Rattle.bits.proofs.members.has16.Reads as has
+use Rattle.bits.proofs.Refuses.{Refuses, lent}
+use Rattle.bits.specs.contracts.members.U8Set.TheImpl as u8
+use Rattle.bits.specs.contracts.members.U16Set.TheImpl as u16
+use Rattle.bits.proofs.members.U16Set.has.Reads as has
+use Rattle.bits.proofs.members.U8Set.only.Reads as only
+use Rattle.bits.proofs.members.U8Set.below.Reads as below
+use Rattle.bits.proofs.members.U8Set.union.Reads as joining
+use Rattle.bits.proofs.members.U8Set.meets.Reads as meeting
 use Rattle.bits.proofs.members.within.Reads as within
 use Rattle.bits.proofs.members.moved.Reads as moving
-use Rattle.bits.proofs.members.moved16.Reads as moving16
 use Rattle.bits.proofs.rows.row_of.Reads as row_of
 use Rattle.bits.proofs.rows.rows.Reads as rows
 use Rattle.bits.proofs.entries.stem_entry.Reads as StemEntry
@@ -45,6 +55,41 @@ pub one_missing : Refuses within.Post (5, (4, _)) true
 unfolding subset all bit digit
 one_missing x p = false≢true (sym p)
 
+-- ---- sets in a u8: the member 3 whatever the test, and the number 3; none of a set that is cut, and all of it; the common members for all, and one
+-- set alone; 0 and 2 called to meet 1, and not to meet 1 and 2
+
+pub untested : Refuses only.Post (3, (false, _)) 8
+unfolding weight
+untested x p = omega (arith, p)
+
+pub number_for_set : Refuses only.Post (3, (true, _)) 3
+unfolding weight
+number_for_set x p = omega (arith, p)
+
+pub none_below : Refuses below.Post (257, _) 0
+unfolding set_of pack weight bit digit
+none_below x p = omega (arith, p)
+
+pub all_below : Refuses below.Post (257, _) 257
+unfolding set_of pack weight bit digit
+all_below x p = omega (arith, p)
+
+pub meet_for_union : Refuses joining.Post (5, (3, _)) 1
+unfolding union set_of pack weight bit digit
+meet_for_union x p = omega (arith, p)
+
+pub one_of_two : Refuses joining.Post (5, (3, _)) 5
+unfolding union set_of pack weight bit digit
+one_of_two x p = omega (arith, p)
+
+pub apart_called_meeting : Refuses meeting.Post (5, (2, _)) true
+unfolding meets any bit digit
+apart_called_meeting x p = false≢true (sym p)
+
+pub meeting_called_apart : Refuses meeting.Post (5, (6, _)) false
+unfolding meets any bit digit
+meeting_called_apart x p = false≢true p
+
 -- ---- sets moved, where every state steps to 0: the set itself; nothing, for the last state
 
 abbrev steps : List ℕ
@@ -53,21 +98,24 @@ steps = 1 ∷ 1 ∷ 1 ∷ 1 ∷ 1 ∷ 1 ∷ 1 ∷ 1 ∷ []
 abbrev steps16 : List ℕ
 steps16 = steps ++ steps
 
-pub not_moved : Refuses moving.Post (steps, (2, _)) 2
-unfolding moved set_of pack moves_to any by_rows weight bit digit
-not_moved x p = omega (arith, p)
+-- `moved` at u8 and at u16, whatever is known besides of the type and of its copies
+module _ (κ : Lft) (L : Laws u8-field.row) (C : IsCopy u8-field.row) (D : Dict) (K : Ghosts ℕ) (E : Dict) where
+  pub not_moved : Refuses (moving.Post u8-field.row L C u8.ghosts D K E) {k = (κ, (κ, _))} (lent steps, (2, _)) 2
+  unfolding moved set_of pack moves_to any by_sets weight bit digit
+  not_moved x p = omega (arith, p)
 
-pub last_not_moved : Refuses moving.Post (steps, (128, _)) 0
-unfolding moved set_of pack moves_to any by_rows weight bit digit
-last_not_moved x p = omega (arith, p)
+  pub last_not_moved : Refuses (moving.Post u8-field.row L C u8.ghosts D K E) {k = (κ, (κ, _))} (lent steps, (128, _)) 0
+  unfolding moved set_of pack moves_to any by_sets weight bit digit
+  last_not_moved x p = omega (arith, p)
 
-pub not_moved16 : Refuses moving16.Post (steps16, (2, _)) 2
-unfolding moved set_of pack moves_to any by_rows weight bit digit
-not_moved16 x p = omega (arith, p)
+module _ (κ : Lft) (L : Laws u16-field.row) (C : IsCopy u16-field.row) (D : Dict) (K : Ghosts ℕ) (E : Dict) where
+  pub not_moved16 : Refuses (moving.Post u16-field.row L C u16.ghosts D K E) {k = (κ, (κ, _))} (lent steps16, (2, _)) 2
+  unfolding moved set_of pack moves_to any by_sets weight bit digit
+  not_moved16 x p = omega (arith, p)
 
-pub last_not_moved16 : Refuses moving16.Post (steps16, (32768, _)) 0
-unfolding moved set_of pack moves_to any by_rows weight bit digit
-last_not_moved16 x p = omega (arith, p)
+  pub last_not_moved16 : Refuses (moving.Post u16-field.row L C u16.ghosts D K E) {k = (κ, (κ, _))} (lent steps16, (32768, _)) 0
+  unfolding moved set_of pack moves_to any by_sets weight bit digit
+  last_not_moved16 x p = omega (arith, p)
 
 -- ---- pairs: 769 has the rows 1 and 3
 

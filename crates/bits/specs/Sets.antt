@@ -31,6 +31,10 @@ moves_to step x n q' = any (λ q. bit x q && step q q') n
 unfoldable pub moved : ℕ → (ℕ → ℕ → Bool) → ℕ → ℕ
 moved n step x = set_of (moves_to step x n) n
 
--- the step that a list of sets spells out: from q to each member of the set at q, its row
-unfoldable pub by_rows : List ℕ → ℕ → ℕ → Bool
-by_rows rows q q' = bit (get_or rows q 0) q'
+-- the step that a list spells out, of sets whose members are the bits of a number: from q to each member of the set at q, its row
+unfoldable pub by_sets : {A : Type 0} → (A → ℕ) → A → List A → ℕ → ℕ → Bool
+by_sets bits none rows q q' = bit (bits (get_or rows q none)) q'
+
+-- the same of sets that are these numbers
+abbrev pub by_rows : List ℕ → ℕ → ℕ → Bool
+by_rows rows = by_sets (λ x. x) 0 rows

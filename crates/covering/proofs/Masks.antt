@@ -19,26 +19,6 @@ use Rattle.growth.specs.Tables.{contained}
 use Rattle.covering.specs.Entries.{Period, period_covers}
 use Rattle.covering.specs.Masks.{lacking, having, apart, holds, covers}
 
-module _ (c d : Context) where
-  -- that all is there
-  pub holds_not : (bit_and d.reach (2 ^ 64 - 1 - c.reach) ≡ 0 → ⊥) → holds c d ≡ false
-  unfolding holds
-  holds_not h = ap (λ (b : Bool). b && eqb (bit_and d.through (2 ^ 64 - 1 - c.through)) 0) (ne_eqb (bit_and d.reach (2 ^ 64 - 1 - c.reach)) 0 h)
-
-  pub holds_then : bit_and d.reach (2 ^ 64 - 1 - c.reach) ≡ 0 → holds c d ≡ eqb (bit_and d.through (2 ^ 64 - 1 - c.through)) 0
-  unfolding holds
-  holds_then h = ap (λ (b : Bool). b && eqb (bit_and d.through (2 ^ 64 - 1 - c.through)) 0) (eq-eqb (bit_and d.reach (2 ^ 64 - 1 - c.reach)) 0 h)
-
-  -- the first number decides
-  pub apart_not : (bit_and c.reach d.reach ≡ 0 → ⊥) → apart c d ≡ false
-  unfolding apart
-  apart_not h = ap (λ (b : Bool). b && eqb (bit_and c.through d.through) 0) (ne_eqb (bit_and c.reach d.reach) 0 h)
-
-  -- or the second does
-  pub apart_then : bit_and c.reach d.reach ≡ 0 → apart c d ≡ eqb (bit_and c.through d.through) 0
-  unfolding apart
-  apart_then h = ap (λ (b : Bool). b && eqb (bit_and c.through d.through) 0) (eq-eqb (bit_and c.reach d.reach) 0 h)
-
 -- ---- what covers covers
 
 -- of the pairs z: what a has is in b, and what b has is in what m leaves out
@@ -70,7 +50,8 @@ apart_parts c d e =
     (eqb-true (bit_and c.reach d.reach) 0 (and_left first second e), eqb-true (bit_and c.through d.through) 0 (and_right first second e))
 
 apart_from : (c d : Context) → bit_and c.reach d.reach ≡ 0 → bit_and c.through d.through ≡ 0 → apart c d ≡ true
-apart_from c d e f = apart_then c d e ∙ eq-eqb (bit_and c.through d.through) 0 f
+unfolding apart
+apart_from c d e f = rw (e, f) refl
 
 module _ (rows : ℕ) (a b : Period) (e : covers rows a b ≡ true) where
   -- what covers is at the same state

@@ -92,9 +92,8 @@ module _ (covers : Period → Period → Bool) (t : List Period) (c : Period) wh
         beyond : 16 + st.i ≡ next + 15
         beyond = omega (arith, st.next_is)
 
-        after_is : following (length t) chains place ≡ suc (length st.rest)
-        after_is =
-            ap (following (length t) chains) s.place_is ∙ following_is (length t) st.between.after (omega (arith, st.between.short))
+        after_is : (f : ℕ) → length t ≤ f → following f chains place ≡ suc (length st.rest)
+        after_is f l = ap (following f chains) s.place_is ∙ following_is f st.between.after (omega (arith, st.between.short))
 
         -- it does not cover the candidate
         module _ (misses : covers (entry_at t (next - 1)) c ≡ false) where
@@ -104,10 +103,10 @@ module _ (covers : Period → Period → Bool) (t : List Period) (c : Period) wh
           pub scan_pass : Scanning chains (next + 15) (get_or chains (next + 15) 0)
           scan_pass = record { done = st.i ∷ s.done; run = st.rest; between = past covers t c low st.between missed; place_is = sym beyond; next_is = refl }
 
-          pub pass_less : following (length t) chains (next + 15) < following (length t) chains place
-          pass_less =
-              let rest = ap (following (length t) chains) (sym beyond) ∙ following_is (length t) (runs_rest st.between.after) (omega (arith, st.between.short)) in
-              omega (arith, after_is, rest)
+          pub pass_less : (f : ℕ) → length t ≤ f → following f chains (next + 15) < following f chains place
+          pass_less f l =
+              let rest = ap (following f chains) (sym beyond) ∙ following_is f (runs_rest st.between.after) (omega (arith, st.between.short)) in
+              omega (arith, after_is f l, rest)
 
           -- the candidate covers it: it is taken out
           module _ (fits : 16 + length t ≤ length chains) (under : (d : Period) → covers (entry_at t (next - 1)) d ≡ true → covers c d ≡ true) where
@@ -120,12 +119,10 @@ module _ (covers : Period → Period → Bool) (t : List Period) (c : Period) wh
             pub scan_drop : Scanning (set chains place (get_or chains (next + 15) 0)) place (get_or (set chains place (get_or chains (next + 15) 0)) place 0)
             scan_drop = record { done = s.done; run = st.rest; between = taken_out; place_is = s.place_is; next_is = refl }
 
-            pub drop_less : following (length t) (set chains place (get_or chains (next + 15) 0)) place < following (length t) chains place
-            drop_less =
-                let rest =
-                ap (following (length t) (set chains place (get_or chains (next + 15) 0))) s.place_is
-                ∙ following_is (length t) taken_out.after (omega (arith, st.between.short)) in
-                omega (arith, after_is, rest)
+            pub drop_less : (f : ℕ) → length t ≤ f → following f (set chains place (get_or chains (next + 15) 0)) place < following f chains place
+            drop_less f l =
+                let rest = ap (following f (set chains place (get_or chains (next + 15) 0))) s.place_is ∙ following_is f taken_out.after (omega (arith, st.between.short)) in
+                omega (arith, after_is f l, rest)
 
         -- it covers the candidate: it comes to the front
         pub scan_hit : 16 + length t ≤ length chains → covers (entry_at t (next - 1)) c ≡ true → ((d : Period) → covers c d ≡ true → covers (entry_at t (next - 1)) d ≡ true)

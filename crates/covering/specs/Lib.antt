@@ -2,3 +2,4 @@
 pub mod Entries
 pub mod Masks
 pub mod Chained
+pub mod Sought

@@ -6,12 +6,13 @@ use mathlib.Core.List.{List, [], ◌∷◌, ◌++◌, append_assoc}
 use Prim.Native.Nat.{ℕ, zero, suc, ◌+◌, ◌-◌, ◌≤◌, ◌<◌}
 use native.Mathlib.Numerals.{add-one}
 use native.Mathlib.Omega.{arith}
+use Rattle.std.specs.Prelude.{Ok, Err}
 use lib.ListN.{length, get_or, get_elem?, take, drop, set, length-append, length-drop, take-append-drop, get_or-append}
 use lib.Seq.{length-take-le, drop-cons, drop-drop, drop-append-add, take-append_seam, set-append_seam}
 use Rattle.growth.specs.Grow.{Outcome, ended, full, onward, entries, covered, offer, grow}
 use Rattle.growth.specs.Steps.{gather}
 use Rattle.growth.specs.Lent.{growth_of, over}
-use Rattle.growth.specs.declared.Growth.TheVariants.{Ended, Full}
+use Rattle.growth.specs.declared.Full.{Full}
 use Rattle.growth.proofs.Entries.{At, entry, at_get_d}
 use Rattle.growth.proofs.Grown.{append_room, append_full, offer_append, grow_take, offers, offered_length, offered_extends, extends_length}
 
@@ -99,11 +100,11 @@ module _ {E : Type 0} (covers : E → E → Bool) (room : ℕ) where
 -- ---- what the answer says of the outcome
 
 module _ {E : Type 0} where
-  pub ended_is : (o : Outcome E) {m : ℕ} → Ended m ≡ growth_of o → (o ≡ ended (entries o)) × (length (entries o) ≡ m)
+  pub ended_is : (o : Outcome E) {m : ℕ} → Ok m ≡ growth_of o → (o ≡ ended (entries o)) × (length (entries o) ≡ m)
   ended_is (ended t) e = (refl, cc)
   ended_is (full t) e = let z : ◌≡◌ {A = ℕ} 0 1 = cc in absurd (omega arith)
 
-  pub full_is : (o : Outcome E) → Full ≡ growth_of o → o ≡ full (entries o)
+  pub full_is : (o : Outcome E) {e : Full} → Err e ≡ growth_of o → o ≡ full (entries o)
   full_is (ended t) e = let z : ◌≡◌ {A = ℕ} 0 1 = cc in absurd (omega arith)
   full_is (full t) e = refl
 

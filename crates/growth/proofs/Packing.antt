@@ -4,7 +4,6 @@ use mathlib.Core.Path.{◌≡◌, refl, sym, ap, ap₂, ◌∙◌}
 use mathlib.Core.Bool.{Bool, ◌&&◌}
 use mathlib.Core.List.{List, map, Memᴰ}
 use Prim.Native.Nat.{ℕ, ◌<◌}
-use native.Mathlib.Omega.{arith}
 use lib.ListN.{length, length-map}
 use lib.Dec.{eqb}
 use Rattle.acceptance.specs.Lasso.{Aut}
@@ -20,11 +19,11 @@ use Rattle.growth.proofs.Steps.{steps_mem, map_steps}
 module _ {E F : Type 0} (f : E → F) where
   pub complete_mapped : (o : Outcome E) → Complete o → Complete (mapped f o)
   complete_mapped (ended t) e = refl
-  complete_mapped (full t) e = absurd (let z : ◌≡◌ {A = ℕ} 0 1 = cc in omega arith)
+  complete_mapped (full t) e = absurd cc
 
   pub mapped_complete : (o : Outcome E) → Complete (mapped f o) → Complete o
   mapped_complete (ended t) e = refl
-  mapped_complete (full t) e = absurd (let z : ◌≡◌ {A = ℕ} 0 1 = cc in omega arith)
+  mapped_complete (full t) e = absurd cc
 
   pub mapped_length : (o : Outcome E) → length (entries (mapped f o)) ≡ length (entries o)
   mapped_length o = ap length (mapped_entries f o) ∙ length-map (entries o) f

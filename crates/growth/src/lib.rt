@@ -1,9 +1,6 @@
-//! No code: the growth of a table stated once, with stems and periods as such tables. The type is what growing a lent table answers.
+//! No code: the growth of a table stated once, with stems and periods as such tables. Growing a lent table answers how many entries it ended with, or that it is full.
 #![tactic(auto)]
 
-// A table that ended with so many entries, or one that lacks room.
+// The table lacks room for an entry that must be appended.
 #[derive(Clone, Copy)]
-pub enum Growth {
-    Ended(usize),
-    Full,
-}
+pub struct Full;

@@ -8,16 +8,16 @@ ghost use Rattle.host.specs.Lasso.{LassoRight};
 ghost use Rattle.host.specs.Decide.{room_with, row_left, RowDecided};
 
 use inclusion::Answer;
-use membership::Tested;
+use records::Refusal;
+use search::Lent;
 
 // Document 01's number of an answer of the lasso test.
-fn number_of(tested: Tested) -> u32
+fn number_of(tested: Result<bool, Refusal>) -> u32
     ensures { result ≡ host_number tested }
 {
     match tested {
-        Tested::Rejected => 0,
-        Tested::Accepted => 1,
-        Tested::Refused(refusal) => 100 + refusal.number as u32,
+        Ok(accepted) => u32::from(accepted),
+        Err(refusal) => 100 + u32::from(refusal.reason.number()),
     }
 }
 
@@ -30,17 +30,18 @@ pub extern "C" fn wickerbell_lasso(records: &[u8], stem: &[u8], period: &[u8]) -
 }
 
 // Document 01's number of an answer of the entry point.
+#[tactic(auto, unfolding(inclusion::specs::Answers::numbers_of))]
 fn number_in(answer: Answer) -> u32
     ensures { result ≡ number_of answer }
 {
     match answer {
-        Answer::Included(_) => 0,
-        Answer::NotIncluded(_, _) => 0,
-        Answer::Refused(refusal, _) => refusal.number as u32,
+        Answer::Included(_) | Answer::NotIncluded(_, _) => 0,
+        Answer::Refused(refusal, _) => u32::from(refusal.reason.number()),
     }
 }
 
 // S, or 0, which is out of range, where the row cannot hold an answer.
+#[tactic(auto, unfolding(crate::specs::Decide::room_with))]
 fn room_with(row: &[u64], stem_room: u64) -> usize
     ensures { result ≡ room_with row.now stem_room }
 {
@@ -51,18 +52,14 @@ fn room_with(row: &[u64], stem_room: u64) -> usize
 }
 
 // The nine numbers of an answer, where the row can hold them.
+#[tactic(auto, using(crate::proofs::Row::nine), unfolding(crate::specs::Decide::row_left, growth::specs::Lent::over))]
 fn put_row(row: &mut [u64], answer: Answer)
     ensures { row.new ≡ row_left row.old answer }
 {
     if row.len() < 9 {
         return;
     }
-    let numbers = inclusion::numbers(answer);
-    let mut i = 0;
-    while i < 9 {
-        row[i] = numbers[i];
-        i += 1;
-    }
+    row[..9].copy_from_slice(&inclusion::numbers(answer));
 }
 
 // The entry point: the answer's number is returned, and the whole answer is put into the row. A row that is too short counts as one more lent table
@@ -87,19 +84,16 @@ pub extern "C" fn wickerbell_decide(
         (record { smallest = smallest.new; largest = largest.new; links = links.new; contexts = contexts.new; stem = stem.new; period = period.new })
         row.new }
 {
-    let room = room_with(row, stem_room);
-    let answer = inclusion::decide(
-        model,
-        rule,
-        room,
-        period_room as usize,
+    let mut lent = Lent {
         smallest,
         largest,
         links,
         contexts,
         stem,
         period,
-    );
+    };
+    let room = room_with(row, stem_room);
+    let answer = inclusion::decide(model, rule, room, period_room as usize, &mut lent);
     put_row(row, answer);
     number_in(answer)
 }

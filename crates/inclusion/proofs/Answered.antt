@@ -41,28 +41,28 @@ module _ (S P : ℕ) (c : Counts) where
 
   pub eight_stems : (k : ℕ) (v : Verdict) → ((number_of (answer_by v) ≡ 8) × (which_of (answer_by v) ≡ k)) ↔ (v ≡ stems_full k)
   unfolding answer_to ending_by numbers_of
-  eight_stems k included = (λ e. absurd (omega arith), λ e. absurd (let z : ◌≡◌ {A = ℕ} 0 1 = cc in omega arith))
-  eight_stems k (shown x y) = (λ e. absurd (omega arith), λ e. absurd (let z : ◌≡◌ {A = ℕ} 0 1 = cc in omega arith))
+  eight_stems k included = (λ e. absurd (omega arith), λ e. absurd cc)
+  eight_stems k (shown x y) = (λ e. absurd (omega arith), λ e. absurd cc)
   eight_stems k (stems_full j) = (λ e. ap stems_full e.1, λ e. (refl, cc))
-  eight_stems k periods_full = (λ e. absurd (omega arith), λ e. absurd (let z : ◌≡◌ {A = ℕ} 0 1 = cc in omega arith))
+  eight_stems k periods_full = (λ e. absurd (omega arith), λ e. absurd cc)
 
   pub nine_periods : (v : Verdict) → (number_of (answer_by v) ≡ 9) ↔ (v ≡ periods_full)
   unfolding answer_to ending_by numbers_of
-  nine_periods included = (λ e. absurd (omega arith), λ e. absurd (let z : ◌≡◌ {A = ℕ} 0 1 = cc in omega arith))
-  nine_periods (shown x y) = (λ e. absurd (omega arith), λ e. absurd (let z : ◌≡◌ {A = ℕ} 0 1 = cc in omega arith))
-  nine_periods (stems_full j) = (λ e. absurd (omega arith), λ e. absurd (let z : ◌≡◌ {A = ℕ} 0 1 = cc in omega arith))
+  nine_periods included = (λ e. absurd (omega arith), λ e. absurd cc)
+  nine_periods (shown x y) = (λ e. absurd (omega arith), λ e. absurd cc)
+  nine_periods (stems_full j) = (λ e. absurd (omega arith), λ e. absurd cc)
   nine_periods periods_full = (λ e. refl, λ e. refl)
 
   pub included_from : (v : Verdict) {d : Counts} → answer_by v ≡ says.Included d → v ≡ included
   unfolding answer_to ending_by
   included_from included e = refl
-  included_from (shown x y) e = absurd (let z : ◌≡◌ {A = ℕ} 0 1 = cc in omega arith)
-  included_from (stems_full k) e = absurd (let z : ◌≡◌ {A = ℕ} 0 1 = cc in omega arith)
-  included_from periods_full e = absurd (let z : ◌≡◌ {A = ℕ} 0 1 = cc in omega arith)
+  included_from (shown x y) e = absurd cc
+  included_from (stems_full k) e = absurd cc
+  included_from periods_full e = absurd cc
 
   pub shown_from : (v : Verdict) {d : Counts} {l : Lengths} → answer_by v ≡ says.NotIncluded d l → Shows v l
   unfolding answer_to ending_by stem_shown period_shown
   shown_from (shown x y) e = record { verdict_is = refl; stem_is = cc; period_is = cc }
-  shown_from included e = absurd (let z : ◌≡◌ {A = ℕ} 0 1 = cc in omega arith)
-  shown_from (stems_full k) e = absurd (let z : ◌≡◌ {A = ℕ} 0 1 = cc in omega arith)
-  shown_from periods_full e = absurd (let z : ◌≡◌ {A = ℕ} 0 1 = cc in omega arith)
+  shown_from included e = absurd cc
+  shown_from (stems_full k) e = absurd cc
+  shown_from periods_full e = absurd cc

@@ -62,7 +62,7 @@ module _ (model rule : List ℕ) (S P : ℕ) (old : Buffers) where
 
   is_shown : {r : Answer} {new : Buffers} → Outcome r new → (c : Counts) (l : Lengths) → r ≡ says.NotIncluded c l → Shown (spelled model) (spelled rule) (take l.stem new.stem) (take l.period new.period)
   unfolding left_by
-  is_shown (stopped refusal e) c l q = absurd (let z : ◌≡◌ {A = ℕ} 0 1 = cc in omega arith)
+  is_shown (stopped refusal e) c l q = absurd cc
   is_shown (walked m) c l q =
       let (_, _, k) = ready m in
       let room = enough S P (sizes_of old) k.lends in
@@ -71,7 +71,7 @@ module _ (model rule : List ℕ) (S P : ℕ) (old : Buffers) where
       (walk_shown (model_bounded k) (rule_small k) S P room.few_stems room.few_periods s.verdict_is)
 
   is_included : {r : Answer} {new : Buffers} → Outcome r new → (c : Counts) → r ≡ says.Included c → Included (spelled model) (spelled rule)
-  is_included (stopped refusal e) c q = absurd (let z : ◌≡◌ {A = ℕ} 0 1 = cc in omega arith)
+  is_included (stopped refusal e) c q = absurd cc
   is_included (walked m) c q = let (_, _, k) = ready m in walk_included (model_bounded k) (rule_small k) S P (included_from S P counts verdict q)
 
   is_bounded : {r : Answer} {new : Buffers} → Outcome r new → Counted (states_of model) (states_of rule) (counts_in r)
@@ -83,7 +83,7 @@ module _ (model rule : List ℕ) (S P : ℕ) (old : Buffers) where
 
   -- where the walk is made, both are the walk's
   pub made_by : {r : Answer} {new : Buffers} → goes → Outcome r new → (r ≡ answer_by S P counts verdict) × (new ≡ left_by walk P old)
-  made_by m (stopped refusal e) = absurd (let z : ◌≡◌ {A = ℕ} 0 1 = cc in omega arith)
+  made_by m (stopped refusal e) = absurd cc
   made_by m (walked _) = (refl, refl)
 
   is_roomy : {r : Answer} {new : Buffers} → goes → Outcome r new → states_of model * 2 ^ states_of rule ≤ S → states_of model * 3 ^ (states_of rule * states_of rule) ≤ P → number_of r ≡ 0

@@ -9,8 +9,7 @@ use Rattle.records.specs.declared.Refusal.{Refusal}
 use Rattle.records.specs.Spelled.{spelled}
 use Rattle.records.specs.Faults.{judged}
 use Rattle.records.proofs.Loaded.{loaded_model, loaded_rule}
-use Rattle.loading.specs.declared.Outset.{Outset}
-use Rattle.loading.specs.declared.Outset.TheVariants.{Walks, Stops}
+use Rattle.std.specs.Prelude.{Result, Ok, Err}
 use Rattle.loading.specs.Outset.{long_enough, outset_of, Loads}
 use Rattle.loading.proofs.Judged.{enough, goes}
 use Rattle.search.specs.declared.Ending.{Ending}
@@ -18,35 +17,40 @@ use Rattle.walk.specs.Walk.{Walked, walk}
 use Rattle.search.specs.Ending.{Buffers, ending_of, left_by}
 use Rattle.search.specs.Contract.{Prepared, Concluded}
 use Rattle.inclusion.specs.declared.Answer.{Answer}
-use Rattle.inclusion.specs.Answers.{sizes_of, start_by, start_of, answer_to, walk_of, decided, left}
+use Rattle.inclusion.specs.declared.Answer.TheVariants as says
+use Rattle.inclusion.specs.Answers.{sizes_of, none_counted, start_by, start_of, answer_to, walk_of, decided, left}
 use Rattle.inclusion.specs.Decided.{Decided}
-use Rattle.inclusion.specs.Stopped.{stopped_by}
 use Rattle.inclusion.proofs.Started.{Ready, ready, model_bounded, rule_small}
 use Rattle.inclusion.proofs.Demands.{demands}
 
 module _ (model rule : List ℕ) (S P : ℕ) (lent : Buffers) where
-  heads : {a b : Head} → outset_of (judged 16 model) (judged 8 rule) (long_enough S P (sizes_of lent)) ≡ Walks a b → Ready model rule S P lent a b
+  heads : {a b : Head} → outset_of (judged 16 model) (judged 8 rule) (long_enough S P (sizes_of lent)) ≡ Ok (a, b) → Ready model rule S P lent a b
   unfolding start_of
-  heads e =
-      let (_, _, r) = ready {lent = lent} (ap start_by e) in
-      let same = goes (judged 8 rule) (long_enough S P (sizes_of lent)) r.model_good r.rule_good r.lends ∙ e in
-      record { model_good = cc; rule_good = cc; lends = r.lends }
+  heads {a} {b} e =
+      let (a', b', r) = ready {lent = lent} (ap start_by e) in
+      let same : Ok (a', b') ≡ Ok (a, b) = goes (judged 8 rule) (long_enough S P (sizes_of lent)) r.model_good r.rule_good r.lends ∙ e in
+      let pair : (a', b') ≡ (a, b) = cc in
+      record {
+        model_good = r.model_good ∙ ap (λ (p : Head × Head). Ok p.0) pair;
+        rule_good = r.rule_good ∙ ap (λ (p : Head × Head). Ok p.1) pair;
+        lends = r.lends;
+      }
 
   -- what is known once both files are read
-  module _ {o : Outset} {model-table rule-table : List (List ℕ)} (loads : Loads model rule (long_enough S P (sizes_of lent)) o model-table rule-table) where
+  module _ {o : Result (Head × Head) Refusal} {model-table rule-table : List (List ℕ)} (loads : Loads model rule (long_enough S P (sizes_of lent)) o model-table rule-table) where
     starts : start_of model rule S P lent ≡ start_by o
     unfolding start_of
     starts = ap start_by (sym loads.outset)
 
     -- ---- it stops
 
-    pub stopped_right : {refusal : Refusal} {r : Answer} → o ≡ Stops refusal → r ≡ stopped_by o → Decided model rule S P lent r lent
+    pub stopped_right : {refusal : Refusal} → o ≡ Err refusal → Decided model rule S P lent (says.Refused refusal none_counted) lent
     unfolding decided left
-    stopped_right e answer = let s = starts ∙ ap start_by e in demands model rule S P lent (answer ∙ rw (e, s, decided)) (rw (s, left))
+    stopped_right e = let s = starts ∙ ap start_by e in demands model rule S P lent (rw (s, decided)) (rw (s, left))
 
     -- ---- it goes on
 
-    module _ {a b : Head} (e : o ≡ Walks a b) where
+    module _ {a b : Head} (e : o ≡ Ok (a, b)) where
       files : Ready model rule S P lent a b
       files = heads (sym loads.outset ∙ e)
 

@@ -4,14 +4,13 @@ use mathlib.Core.Bool.{Bool, true, false}
 use mathlib.Core.List.{List}
 use mathlib.Core.Path.{◌≡◌, refl, sym, subst}
 use Prim.Native.Nat.{ℕ}
-use native.Mathlib.Omega.{arith}
 use Rattle.acceptance.specs.Contexts.{Small}
 use Rattle.acceptance.proofs.Targets.{small_more}
 use Rattle.growth.specs.Numbered.{Bounded, Numbered}
 use Rattle.growth.proofs.Numbered.{numbered}
 use Rattle.automata.specs.declared.Head.{Head}
-use Rattle.records.specs.declared.Checked.{Checked}
-use Rattle.records.specs.declared.Checked.TheVariants.{Good, Refused as Faulty}
+use Rattle.std.specs.Prelude.{Result, Ok, Err}
+use Rattle.records.specs.declared.Fault.{Fault}
 use Rattle.records.specs.Spelled.{spelled}
 use Rattle.records.specs.Faults.{judged, head_of}
 use Rattle.records.proofs.Good.{good_file}
@@ -24,19 +23,19 @@ use Rattle.inclusion.specs.Decided.{states_of, Made}
 -- ---- a good file
 
 -- its automaton, by the number of its states
-states_small : (n : ℕ) (s : List ℕ) {h : Head} → judged n s ≡ Good h → Small (states_of s) (spelled s)
+states_small : (n : ℕ) (s : List ℕ) {h : Head} → judged n s ≡ Ok h → Small (states_of s) (spelled s)
 unfolding head_of
 states_small n s {h} e = subst (λ (h : Head). Small h.states (spelled s)) (good_file n s e).head_is (spelled_small n s e).small
 
-within_limit : (n : ℕ) (s : List ℕ) {h : Head} → judged n s ≡ Good h → Small n (spelled s)
+within_limit : (n : ℕ) (s : List ℕ) {h : Head} → judged n s ≡ Ok h → Small n (spelled s)
 within_limit n s e = let limits = spelled_small n s e in small_more limits.states_within limits.small
 
 -- ---- the walk is made
 
 -- the files are good, with these heads, and enough is lent
 pub record Ready (model rule : List ℕ) (S P : ℕ) (lent : Buffers) (a b : Head) : Type 0 where
-  pub model_good : judged 16 model ≡ Good a
-  pub rule_good : judged 8 rule ≡ Good b
+  pub model_good : judged 16 model ≡ Ok a
+  pub rule_good : judged 8 rule ≡ Ok b
   pub lends : long_enough S P (sizes_of lent) ≡ true
 
 module _ {model rule : List ℕ} {S P : ℕ} {lent : Buffers} where
@@ -44,12 +43,12 @@ module _ {model rule : List ℕ} {S P : ℕ} {lent : Buffers} where
   unfolding start_of outset_of
   ready e = at (judged 16 model) refl (judged 8 rule) refl (long_enough S P (sizes_of lent)) refl (sym e)
     where
-      at : (f : Checked) → judged 16 model ≡ f → (g : Checked) → judged 8 rule ≡ g → (c : Bool) → long_enough S P (sizes_of lent) ≡ c
+      at : (f : Result Head Fault) → judged 16 model ≡ f → (g : Result Head Fault) → judged 8 rule ≡ g → (c : Bool) → long_enough S P (sizes_of lent) ≡ c
           → walks ≡ start_by (outset_of f g c) → (a : Head) × (b : Head) × Ready model rule S P lent a b
-      at (Good a) ef (Good b) eg true ec e = (a, b, record { model_good = ef; rule_good = eg; lends = ec })
-      at (Good a) ef (Good b) eg false ec e = absurd (let z : ◌≡◌ {A = ℕ} 0 1 = cc in omega arith)
-      at (Good a) ef (Faulty number place) eg c ec e = absurd (let z : ◌≡◌ {A = ℕ} 0 1 = cc in omega arith)
-      at (Faulty number place) ef g eg c ec e = absurd (let z : ◌≡◌ {A = ℕ} 0 1 = cc in omega arith)
+      at (Ok a) ef (Ok b) eg true ec e = (a, b, record { model_good = ef; rule_good = eg; lends = ec })
+      at (Ok a) ef (Ok b) eg false ec e = absurd cc
+      at (Ok a) ef (Err fault) eg c ec e = absurd cc
+      at (Err fault) ef g eg c ec e = absurd cc
 
   -- both automata are as the walk wants them
   module _ {a b : Head} (r : Ready model rule S P lent a b) where

@@ -6,6 +6,7 @@ use Prim.Native.Nat.{ℕ}
 use native.Mathlib.Omega.{arith}
 use lib.ListN.{get_or}
 use Rattle.bits.proofs.Refuses.{Refuses}
+use Rattle.adding.specs.declared.reason.Reason.TheVariants.{StemsFull as NoStems}
 use Rattle.records.specs.Faults.{refusal}
 use Rattle.search.specs.declared.Ending.TheVariants.{StemsFull}
 use Rattle.inclusion.specs.declared.Answer.{Answer}
@@ -20,11 +21,11 @@ unfolding numbers_of
 counts_swapped x p = omega (arith, ap (λ (row : List ℕ). get_or row 3 0) p)
 
 -- a word's length beside a refusal
-pub length_with_refusal : Refuses numbers.Post (says.Refused (refusal 8 0 2) (counted 2 0 0 0), _) (8 ∷ 0 ∷ 2 ∷ 2 ∷ 0 ∷ 0 ∷ 0 ∷ 1 ∷ 0 ∷ [])
+pub length_with_refusal : Refuses numbers.Post (says.Refused (refusal NoStems 0 2) (counted 2 0 0 0), _) (8 ∷ 0 ∷ 2 ∷ 2 ∷ 0 ∷ 0 ∷ 0 ∷ 1 ∷ 0 ∷ [])
 unfolding numbers_of
 length_with_refusal x p = omega (arith, ap (λ (row : List ℕ). get_or row 7 0) p)
 
 -- 8 with P for its place
-pub place_of_eight : Refuses AnswerTo.Post (2, (3, (StemsFull 0 (counted 2 0 0 0), _))) (says.Refused (refusal 8 0 3) (counted 2 0 0 0))
+pub place_of_eight : Refuses AnswerTo.Post (2, (3, (StemsFull 0 (counted 2 0 0 0), _))) (says.Refused (refusal NoStems 0 3) (counted 2 0 0 0))
 unfolding answer_to numbers_of
 place_of_eight x p = omega (arith, ap (λ (a : Answer). get_or (numbers_of a) 2 0) p)

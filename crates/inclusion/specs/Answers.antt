@@ -1,10 +1,11 @@
 -- What the tool answers, for any two files, any room and any six lent buffers (document 01, "Numbers the tool answers with"). Assumes nothing.
-use Rattle.std.specs.Prelude.{List, [], ◌∷◌, ℕ, length}
+use Rattle.std.specs.Prelude.{List, [], ◌∷◌, ℕ, Result, Ok, Err, length}
+use Rattle.automata.specs.declared.Head.{Head}
+use Rattle.adding.specs.declared.reason.Reason.TheVariants.{StemsFull as no_room_for_stems, PeriodsFull as no_room_for_periods}
+use Rattle.adding.specs.Reason.{number}
 use Rattle.records.specs.declared.Refusal.{Refusal}
 use Rattle.records.specs.Spelled.{spelled}
 use Rattle.records.specs.Faults.{judged, refusal}
-use Rattle.loading.specs.declared.Outset.{Outset}
-use Rattle.loading.specs.declared.Outset.TheVariants.{Walks, Stops}
 use Rattle.loading.specs.declared.Sizes.{Sizes}
 use Rattle.loading.specs.Outset.{long_enough, outset_of}
 use Rattle.search.specs.declared.Counts.{Counts}
@@ -37,9 +38,9 @@ pub data Start : Type 0 where
   walks : Start
   stops : Refusal → Start
 
-abbrev pub start_by : Outset → Start
-start_by (Walks a b) = walks
-start_by (Stops r) = stops r
+abbrev pub start_by : Result (Head × Head) Refusal → Start
+start_by (Ok heads) = walks
+start_by (Err r) = stops r
 
 unfoldable pub start_of : List ℕ → List ℕ → ℕ → ℕ → Buffers → Start
 start_of model rule S P lent = start_by (outset_of (judged 16 model) (judged 8 rule) (long_enough S P (sizes_of lent)))
@@ -48,8 +49,8 @@ start_of model rule S P lent = start_by (outset_of (judged 16 model) (judged 8 r
 unfoldable pub answer_to : ℕ → ℕ → Ending → Answer
 answer_to S P (Passed counts) = Included counts
 answer_to S P (Shown counts lengths) = NotIncluded counts lengths
-answer_to S P (StemsFull k counts) = Refused (refusal 8 k S) counts
-answer_to S P (PeriodsFull counts) = Refused (refusal 9 0 P) counts
+answer_to S P (StemsFull k counts) = Refused (refusal no_room_for_stems k S) counts
+answer_to S P (PeriodsFull counts) = Refused (refusal no_room_for_periods 0 P) counts
 
 -- the walk of the two automata that the files spell out
 abbrev pub walk_of : List ℕ → List ℕ → ℕ → ℕ → Walked
@@ -74,4 +75,4 @@ left model rule S P lent =
 unfoldable pub numbers_of : Answer → List ℕ
 numbers_of (Included c) = 0 ∷ 0 ∷ 0 ∷ c.u ∷ c.w ∷ c.p ∷ c.t ∷ 0 ∷ 0 ∷ []
 numbers_of (NotIncluded c l) = 0 ∷ 0 ∷ 0 ∷ c.u ∷ c.w ∷ c.p ∷ c.t ∷ l.stem ∷ l.period ∷ []
-numbers_of (Refused r c) = r.number ∷ r.which ∷ r.place ∷ c.u ∷ c.w ∷ c.p ∷ c.t ∷ 0 ∷ 0 ∷ []
+numbers_of (Refused r c) = number r.reason ∷ r.which ∷ r.place ∷ c.u ∷ c.w ∷ c.p ∷ c.t ∷ 0 ∷ 0 ∷ []

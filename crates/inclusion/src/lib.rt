@@ -2,15 +2,16 @@
 #![tactic(auto)]
 
 ghost use Rattle.std.specs.Prelude.{[], ◌∷◌, ◌≡◌};
-ghost use Rattle.records.specs.Faults.{refusal};
-ghost use Rattle.inclusion.specs.declared.Answer.TheVariants.{Refused};
+ghost use Rattle.search.specs.Contract.{contents, StillLent};
 ghost use Rattle.inclusion.specs.Answers.{answer_to, numbers_of};
 ghost use Rattle.inclusion.specs.Decided.{Decided};
-ghost use Rattle.inclusion.specs.Stopped.{stopped_by};
 
-use loading::{Outset, Sizes};
+use adding::Reason;
+use automata::Automaton;
+use loading::Sizes;
 use records::Refusal;
-use search::{Counts, Ending, Lengths};
+use search::{Counts, Ending, Lengths, Lent};
+use std::fmt;
 
 // What the tool answers: a verdict with its counts, for a shown lasso the lengths of its words, or a refusal with the counts so far.
 #[derive(Clone, Copy)]
@@ -20,45 +21,30 @@ pub enum Answer {
     Refused(Refusal, Counts),
 }
 
-// A refusal with the counts so far.
-fn refused(number: u8, which: u8, place: usize, counts: Counts) -> Answer
-    ensures { result ≡ Refused (refusal number which place) counts }
-{
-    Answer::Refused(
-        Refusal {
-            number,
-            which,
-            place,
-        },
-        counts,
-    )
-}
-
-// The answer where the walk is not made: the refusal, nothing counted. It is asked only where the outset stops; the other case has to be answered too.
-fn stopped_by(outset: Outset) -> Answer
-    ensures { result ≡ stopped_by outset }
-{
-    let none = Counts {
-        u: 0,
-        w: 0,
-        p: 0,
-        t: 0,
-    };
-    match outset {
-        Outset::Walks(_, _) => refused(0, 0, 0, none),
-        Outset::Stops(r) => Answer::Refused(r, none),
-    }
-}
-
 // The answer to how the walk ends: a table that lacks room is a refusal, whose place is its room.
+#[tactic(auto, unfolding(crate::specs::Answers::answer_to))]
 fn answer_to(stem_room: usize, period_room: usize, ending: Ending) -> Answer
     ensures { result ≡ answer_to stem_room period_room ending }
 {
     match ending {
         Ending::Included(counts) => Answer::Included(counts),
         Ending::Shown(counts, lengths) => Answer::NotIncluded(counts, lengths),
-        Ending::StemsFull(which, counts) => refused(8, which, stem_room, counts),
-        Ending::PeriodsFull(counts) => refused(9, 0, period_room, counts),
+        Ending::StemsFull(which, counts) => {
+            let refusal = Refusal {
+                reason: Reason::StemsFull,
+                which,
+                place: stem_room,
+            };
+            Answer::Refused(refusal, counts)
+        }
+        Ending::PeriodsFull(counts) => {
+            let refusal = Refusal {
+                reason: Reason::PeriodsFull,
+                which: 0,
+                place: period_room,
+            };
+            Answer::Refused(refusal, counts)
+        }
     }
 }
 
@@ -68,29 +54,22 @@ pub fn decide(
     rule: &[u8],
     stem_room: usize,
     period_room: usize,
-    smallest: &mut [u32],
-    largest: &mut [u32],
-    links: &mut [u32],
-    contexts: &mut [u64],
-    stem: &mut [u8],
-    period: &mut [u8],
+    lent: &mut Lent<'_>,
 ) -> Answer
-    ensures { Decided model.now rule.now stem_room period_room
-        (record { smallest = smallest.old; largest = largest.old; links = links.old; contexts = contexts.old; stem = stem.old; period = period.old })
-        result
-        (record { smallest = smallest.new; largest = largest.new; links = links.new; contexts = contexts.new; stem = stem.new; period = period.new }) }
+    ensures lent { StillLent lent.old lent.new }
+    ensures decided { Decided model.now rule.now stem_room period_room (contents lent.old) result (contents lent.new) }
 {
     let sizes = Sizes {
-        smallest: smallest.len(),
-        largest: largest.len(),
-        links: links.len(),
-        contexts: contexts.len(),
-        stem: stem.len(),
-        period: period.len(),
+        smallest: lent.smallest.len(),
+        largest: lent.largest.len(),
+        links: lent.links.len(),
+        contexts: lent.contexts.len(),
+        stem: lent.stem.len(),
+        period: lent.period.len(),
     };
     let mut model_table = [[0u16; 16]; 16];
     let mut rule_table = [[0u8; 8]; 16];
-    let outset = loading::load(
+    let loaded = loading::load(
         model,
         rule,
         stem_room,
@@ -99,24 +78,29 @@ pub fn decide(
         &mut model_table,
         &mut rule_table,
     );
-    let Outset::Walks(model_head, rule_head) = outset else {
-        return stopped_by(outset);
-    };
-    let ending = search::walk(
-        &model_table,
-        model_head,
-        &rule_table,
-        rule_head,
-        stem_room,
-        period_room,
-        smallest,
-        largest,
-        links,
-        contexts,
-        stem,
-        period,
-    );
-    answer_to(stem_room, period_room, ending)
+    match loaded {
+        Ok((model_head, rule_head)) => {
+            let model = Automaton {
+                table: model_table,
+                head: model_head,
+            };
+            let rule = Automaton {
+                table: rule_table,
+                head: rule_head,
+            };
+            let ending = search::walk(&model, &rule, stem_room, period_room, lent);
+            answer_to(stem_room, period_room, ending)
+        }
+        Err(refusal) => {
+            let none = Counts {
+                u: 0,
+                w: 0,
+                p: 0,
+                t: 0,
+            };
+            Answer::Refused(refusal, none)
+        }
+    }
 }
 
 // Nine numbers in document 01's order.
@@ -124,8 +108,8 @@ fn row(number: u8, which: u8, place: usize, c: Counts, stem: usize, period: usiz
     ensures { result ≡ number ∷ which ∷ place ∷ c.u ∷ c.w ∷ c.p ∷ c.t ∷ stem ∷ period ∷ [] }
 {
     [
-        number as u64,
-        which as u64,
+        u64::from(number),
+        u64::from(which),
         place as u64,
         c.u as u64,
         c.w as u64,
@@ -137,12 +121,29 @@ fn row(number: u8, which: u8, place: usize, c: Counts, stem: usize, period: usiz
 }
 
 // Document 01's nine numbers of an answer.
+#[tactic(auto, unfolding(crate::specs::Answers::numbers_of))]
 pub fn numbers(answer: Answer) -> [u64; 9]
     ensures { result ≡ numbers_of answer }
 {
     match answer {
         Answer::Included(c) => row(0, 0, 0, c, 0, 0),
         Answer::NotIncluded(c, l) => row(0, 0, 0, c, l.stem, l.period),
-        Answer::Refused(r, c) => row(r.number, r.which, r.place, c, 0, 0),
+        Answer::Refused(r, c) => row(r.reason.number(), r.which, r.place, c, 0, 0),
+    }
+}
+
+// The word in an output's first bytes, as it is printed: a space and a decimal number for each letter.
+#[derive(Clone, Copy)]
+pub struct Letters<'a> {
+    pub output: &'a [u8],
+    pub count: usize,
+}
+
+impl fmt::Display for Letters<'_> {
+    fn fmt<W: fmt::Write>(&self, f: &mut fmt::Formatter<W>) -> fmt::Result {
+        for letter in self.output.iter().take(self.count) {
+            write!(f, " {letter}")?;
+        }
+        Ok(())
     }
 }

@@ -1,45 +1,30 @@
--- The sets of the periods, one after the other; and one step of the search over the pairs: a stem or a period that is passed over, and a test. Assumes nothing.
-use mathlib.Core.Path.{◌≡◌, refl, sym, ap, ◌∙◌}
-use mathlib.Core.Bool.{Bool, true, false, cond, ◌&&◌, true≢false}
-use mathlib.Core.List.{List, [], ◌∷◌, ◌++◌}
-use Prim.Native.Nat.{ℕ, ◌+◌, ◌-◌, ◌*◌, ◌≤◌, ◌<◌}
+-- The search over the pairs, one step at a time: a stem or a period that is passed over, and a test. Assumes nothing.
+use mathlib.Core.Path.{◌≡◌, refl, sym, ap, ap₂, ◌∙◌}
+use mathlib.Core.Bool.{Bool, true, false, ◌&&◌}
+use mathlib.Core.List.{List, [], ◌∷◌, ◌++◌, Memᴰ}
+use Prim.Native.Nat.{ℕ, suc, ◌+◌, ◌-◌, ◌*◌, ◌≤◌, ◌<◌}
 use native.Mathlib.Nat.{add-mul, one-mul, mul-le-mul_right, mul-le-mul_left}
 use native.Mathlib.Numerals.{add-one}
 use native.Mathlib.Omega.{arith}
 use lib.Dec.{eqb}
-use lib.ListN.{length, get_or, set}
-use lib.Seq.{get_or-set_same, get_or-set_other}
-use borrow.Author.Count.{below_more}
-use borrow.Author.Tests.{eq-eqb}
+use lib.ListN.{length, get_or}
+use borrow.Author.Tests.{eq-eqb, ne_eqb}
+use Rattle.std.specs.Prelude.{Ok, Err}
 use Rattle.bits.specs.Fields.{link_state}
 use Rattle.growth.specs.Steps.{gather, only, steps}
-use Rattle.automata.specs.Repeated.{repeated}
-use Rattle.covering.specs.Entries.{context_in}
-use Rattle.lassos.specs.declared.Found.TheVariants.{Passed, Rejected}
-use Rattle.walk.specs.Walk.{passed, rejected, search, fits, pairs_of}
+use Rattle.walk.specs.Walk.{Search, passed, rejected, search, fits, pairs_of}
 use Rattle.lassos.specs.Pairs.{found_of, meeting, Few}
 use Rattle.growth.proofs.Gathered.{gather_all, gather_next, gather_past, gather_over, gather_nothing}
 
--- ---- the sets of the periods
-
-module _ (s : ℕ) (links contexts : List ℕ) where
-  -- the set of the period at j is there, if it is at s
-  abbrev pub SetAt : List ℕ → ℕ → Type 0
-  SetAt sets j = eqb (link_state (get_or links j 0)) s ≡ true → get_or sets j 0 ≡ repeated 8 (context_in contexts j)
-
-  -- one set more
-  pub put_more : {j : ℕ} (sets : List ℕ) → j < length sets → ((k : ℕ) → k < j → SetAt sets k)
-      → (k : ℕ) → k < j + 1 → SetAt (cond (eqb (link_state (get_or links j 0)) s) (set sets j (repeated 8 (context_in contexts j))) sets) k
-  put_more {j} sets l known = at (eqb (link_state (get_or links j 0)) s) refl
-    where
-      x : ℕ
-      x = repeated 8 (context_in contexts j)
-
-      at : (b : Bool) → eqb (link_state (get_or links j 0)) s ≡ b → (k : ℕ) → k < j + 1 → SetAt (cond b (set sets j x) sets) k
-      at true e = below_more (SetAt (set sets j x)) j (λ k m t. get_or-set_other sets j k x 0 (λ i. omega arith) ∙ known k m t) (λ t. get_or-set_same sets j x 0 l)
-      at false e = below_more (SetAt sets) j known (λ t. absurd (true≢false (sym t ∙ e)))
-
 -- ---- the tests
+
+-- tests that agree on the pairs
+pub search_same : (f g : ℕ → ℕ → Bool) (cs : List (ℕ × ℕ)) (t : ℕ) → ((c : ℕ × ℕ) → Memᴰ c cs → f c.0 c.1 ≡ g c.0 c.1) → search f cs t ≡ search g cs t
+unfolding search
+search_same f g [] t h = refl
+search_same f g (c ∷ cs) t h =
+    ap₂ (λ (b : Bool) (o : Search). elim b [ true ↦ o | false ↦ rejected (suc t) c.0 c.1 ]) (h c (Memᴰ.head refl))
+    (search_same f g cs (suc t) (λ d m. h d (Memᴰ.tail m)))
 
 module _ (test : ℕ → ℕ → Bool) where
   search_none : (t : ℕ) → search test [] t ≡ passed t
@@ -127,13 +112,13 @@ module _ (u sets : List ℕ) (s rows : ℕ) (links : List ℕ) (before : ℕ) wh
   pub enter : (i : ℕ) {t : ℕ} → i < length u → Left (pairs_from u s rows links i) t → Left (pairs_on u s rows links i 0) t
   enter i l = same_left (from_stem u s rows links i l)
 
-  pub pass_period : (i j : ℕ) {t : ℕ} → j < length links → eqb (link_state (get_or links j 0)) s ≡ false → Left (pairs_on u s rows links i j) t → Left (pairs_on u s rows links i (j + 1)) t
-  pass_period i j l h = same_left (on_past u s rows links i j l h)
+  pub pass_period : (i j : ℕ) {t : ℕ} → j < length links → (link_state (get_or links j 0) ≡ s → ⊥) → Left (pairs_on u s rows links i j) t → Left (pairs_on u s rows links i (j + 1)) t
+  pass_period i j l h = same_left (on_past u s rows links i j l (ne_eqb (link_state (get_or links j 0)) s h))
 
   pub leave : (i j : ℕ) {t : ℕ} → length links ≤ j → Left (pairs_on u s rows links i j) t → Left (pairs_from u s rows links (i + 1)) t
   leave i j l = same_left (on_none u s rows links i j l)
 
-  pub finish : (i : ℕ) {t : ℕ} → length u ≤ i → Left (pairs_from u s rows links i) t → Passed t ≡ found_of (search (meeting u sets) (pairs_of u s rows links) before)
+  pub finish : (i : ℕ) {t : ℕ} → length u ≤ i → Left (pairs_from u s rows links i) t → Ok t ≡ found_of (search (meeting u sets) (pairs_of u s rows links) before)
   finish i {t} l h = ap found_of (sym (search_none (meeting u sets) t) ∙ (same_left (from_none u s rows links i l) h).gives)
 
   module _ (i j : ℕ) {t : ℕ} (l : j < length links) (f : fits s rows (get_or u i 0) ≡ true) (e : link_state (get_or links j 0) ≡ s) (h : Left (pairs_on u s rows links i j) t) where
@@ -143,7 +128,7 @@ module _ (u sets : List ℕ) (s rows : ℕ) (links : List ℕ) (before : ℕ) wh
     pub tested : meeting u sets i j ≡ true → Left (pairs_on u s rows links i (j + 1)) (t + 1)
     tested m = record { gives = sym (search_pass (meeting u sets) i j (pairs_on u s rows links i (j + 1)) t m) ∙ at_pair.gives }
 
-    pub rejects : meeting u sets i j ≡ false → Rejected (t + 1) i j ≡ found_of (search (meeting u sets) (pairs_of u s rows links) before)
+    pub rejects : meeting u sets i j ≡ false → Err (record { tests = t + 1; stem = i; period = j }) ≡ found_of (search (meeting u sets) (pairs_of u s rows links) before)
     rejects m = ap found_of (sym (search_fail (meeting u sets) i j (pairs_on u s rows links i (j + 1)) t m) ∙ at_pair.gives)
 
 -- ---- how many there are
@@ -157,3 +142,6 @@ pairs_few {u} {links} few i l =
     let l₁ : i * length links ≤ 4096 * length links = mul-le-mul_right (length links) (omega (arith, few.stems)) in
     let l₂ : 4096 * length links ≤ 4096 * 65535 = mul-le-mul_left 4096 few.periods in
     omega arith
+
+-- what the two loops take
+pub ruleset search_steps = (begin, pass_stem, enter, pass_period, leave, finish, tested, rejects, next_row, pairs_few)

@@ -1,24 +1,16 @@
 -- The sets that are put serve the tests: they are those of the periods that are tested. Assumes nothing.
-use mathlib.Core.Path.{◌≡◌, refl, ap, ap₂}
-use mathlib.Core.Bool.{Bool, true, false}
-use mathlib.Core.List.{List, [], ◌∷◌, Memᴰ}
-use Prim.Native.Nat.{ℕ, suc}
+use mathlib.Core.Path.{◌≡◌, ap}
+use mathlib.Core.List.{List, Memᴰ}
+use Prim.Native.Nat.{ℕ}
 use lib.Dec.{eqb}
 use lib.ListN.{length, get_or}
 use Rattle.bits.specs.Sets.{meets}
 use Rattle.bits.specs.Fields.{stem_target, link_state}
 use Rattle.bits.proofs.Truth.{and_right}
 use Rattle.growth.proofs.Steps.{steps_mem}
-use Rattle.walk.specs.Walk.{Search, rejected, search, fits, pairs_of, accepts}
+use Rattle.walk.specs.Walk.{search, fits, pairs_of, accepts}
 use Rattle.lassos.specs.Pairs.{meeting, Accepting}
-
--- tests that agree on the pairs
-search_same : (f g : ℕ → ℕ → Bool) (cs : List (ℕ × ℕ)) (t : ℕ) → ((c : ℕ × ℕ) → Memᴰ c cs → f c.0 c.1 ≡ g c.0 c.1) → search f cs t ≡ search g cs t
-unfolding search
-search_same f g [] t h = refl
-search_same f g (c ∷ cs) t h =
-    ap₂ (λ (b : Bool) (o : Search). elim b [ true ↦ o | false ↦ rejected (suc t) c.0 c.1 ]) (h c (Memᴰ.head refl))
-    (search_same f g cs (suc t) (λ d m. h d (Memᴰ.tail m)))
+use Rattle.lassos.proofs.Pairs.{search_same}
 
 -- the sets that are put are those of the periods that are tested
 pub sets_serve : (u : List ℕ) (s rows : ℕ) (links : List ℕ) {contexts sets : List ℕ} (t : ℕ) → Accepting s links contexts sets

@@ -1,17 +1,17 @@
 -- The search of one round over what the code has: the stems, the links, and for each link at s the set from which its period is accepted.
 -- Assumes nothing.
-use Rattle.std.specs.Prelude.{◌≡◌, Bool, true, List, ℕ, ◌^◌, ◌≤◌, ◌<◌, eqb, length, get_or}
+use Rattle.std.specs.Prelude.{◌≡◌, Bool, true, List, ℕ, ◌^◌, ◌≤◌, ◌<◌, Result, Ok, Err, eqb, length, get_or}
 use Rattle.bits.specs.Sets.{meets}
 use Rattle.bits.specs.Fields.{stem_target, link_state}
 use Rattle.automata.specs.Repeated.{repeated}
 use Rattle.covering.specs.Entries.{context_in}
-use Rattle.lassos.specs.declared.Found.{Found}
-use Rattle.lassos.specs.declared.Found.TheVariants.{Passed, Rejected}
+use Rattle.lassos.specs.declared.Rejected.{Rejected}
 use Rattle.walk.specs.Walk.{Search, passed, rejected}
 
-abbrev pub found_of : Search → Found
-found_of (passed t) = Passed t
-found_of (rejected t i j) = Rejected t i j
+-- the tests made where all lassos passed, or the first rejected one
+abbrev pub found_of : Search → Result ℕ Rejected
+found_of (passed t) = Ok t
+found_of (rejected t i j) = Err (record { tests = t; stem = i; period = j })
 
 -- one test: does the stem's target meet the set of the period?
 unfoldable pub meeting : List ℕ → List ℕ → ℕ → ℕ → Bool

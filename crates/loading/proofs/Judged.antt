@@ -1,21 +1,15 @@
--- The code's judgement of the files and of what is lent, case by case. Assumes nothing.
-use mathlib.Core.Bool.{Bool, true, false, ◌&&◌}
-use mathlib.Core.List.{List}
+-- What it means that enough is lent, and what the walk begins with. Assumes nothing.
+use mathlib.Core.Bool.{Bool, true, ◌&&◌}
 use mathlib.Core.Path.{◌≡◌, sym}
 use Prim.Native.Nat.{ℕ, ◌*◌, ◌≤◌}
 use borrow.Author.Tests.{ltb-true, leb-true, lt-ltb, le-leb}
 use lib.Dec.{ltb, leb}
-use Rattle.bits.proofs.Truth.{and_left, and_right, and_both, false_from}
+use Rattle.std.specs.Prelude.{Result, Ok}
+use Rattle.bits.proofs.Truth.{and_left, and_right, and_both}
 use Rattle.automata.specs.declared.Head.{Head}
-use Rattle.records.specs.declared.Checked.{Checked}
-use Rattle.records.specs.declared.Checked.TheVariants.{Good, Refused as Faulty}
-use Rattle.records.specs.Spelled.{table_of}
-use Rattle.records.specs.Faults.{good_records, judged, refusal, refusal_of}
-use Rattle.records.specs.Narrow.{narrow}
-use Rattle.loading.specs.declared.Outset.{Outset}
-use Rattle.loading.specs.declared.Outset.TheVariants.{Walks, Stops}
+use Rattle.records.specs.declared.Fault.{Fault}
 use Rattle.loading.specs.declared.Sizes.{Sizes}
-use Rattle.loading.specs.Outset.{long_enough, outset_of, Loads}
+use Rattle.loading.specs.Outset.{long_enough, outset_of}
 
 -- ---- the room and the lengths
 
@@ -63,31 +57,8 @@ module _ {S P : ℕ} {n : Sizes} where
       (and_both _ _ (and_both _ _ (le-leb _ _ h.links_long) (le-leb _ _ h.contexts_long))
       (and_both _ _ (le-leb _ _ h.stem_long) (le-leb _ _ h.period_long))))))
 
-  pub too_short : (Enough S P n → ⊥) → false ≡ long_enough S P n
-  too_short none = sym (false_from (long_enough S P n) (λ e. none (enough S P n e)))
+-- ---- the heads, f and g being what reading the files answers
 
--- ---- the judgement, f and g being what reading the files answers
-
-module _ {f : Checked} (g : Checked) (lends : Bool) where
-  pub model_refused : {number place : ℕ} → f ≡ Faulty number place → Stops (refusal_of 0 f) ≡ outset_of f g lends
-  unfolding outset_of
-  model_refused e = rw e
-
-  pub rule_refused : {a : Head} {number place : ℕ} → f ≡ Good a → g ≡ Faulty number place → Stops (refusal_of 1 g) ≡ outset_of f g lends
-  unfolding outset_of
-  rule_refused e h = rw (e, h)
-
-  pub lacks : {a b : Head} → f ≡ Good a → g ≡ Good b → lends ≡ false → Stops (refusal 7 0 0) ≡ outset_of f g lends
-  unfolding outset_of
-  lacks e h l = rw (e, h, l)
-
-  pub goes : {a b : Head} → f ≡ Good a → g ≡ Good b → lends ≡ true → Walks a b ≡ outset_of f g lends
-  unfolding outset_of
-  goes e h l = rw (e, h, l)
-
--- ---- both files read
-
-pub loaded : {model rule : List ℕ} {enough : Bool} {f g : Checked} {o : Outset} {model_table wide rule_table : List (List ℕ)}
-    → f ≡ judged 16 model → model_table ≡ table_of model (good_records 16 model) → g ≡ judged 8 rule → wide ≡ table_of rule (good_records 8 rule) → rule_table ≡ narrow wide
-    → o ≡ outset_of f g enough → Loads model rule enough o model_table rule_table
-loaded f-is model_read g-is rule_read narrowed o_is = record { outset = rw (o_is, f-is, g-is); model_read = model_read; rule_read = rw (narrowed, rule_read) }
+pub goes : {f : Result Head Fault} (g : Result Head Fault) (lends : Bool) {a b : Head} → f ≡ Ok a → g ≡ Ok b → lends ≡ true → Ok (a, b) ≡ outset_of f g lends
+unfolding outset_of
+goes g lends e h l = rw (e, h, l)

@@ -4,15 +4,9 @@
 ghost use Rattle.std.specs.Prelude.{◌≡◌};
 ghost use Rattle.loading.specs.Outset.{long_enough, outset_of, Loads};
 
+use adding::Reason;
 use automata::Head;
-use records::{Checked, Refusal};
-
-// Whether the walk is made, with the heads of the two automata, or the refusal that comes before it.
-#[derive(Clone, Copy)]
-pub enum Outset {
-    Walks(Head, Head),
-    Stops(Refusal),
-}
+use records::{Fault, Refusal};
 
 // How many elements each of the six lent buffers has.
 #[derive(Clone, Copy)]
@@ -25,61 +19,40 @@ pub struct Sizes {
     pub period: usize,
 }
 
-// What comes first: the model's refusal, the rule's, 7 where too little is lent, and else the walk.
-fn judge(model: Checked, rule: Checked, enough: bool) -> Outset
+// What comes first: the model's refusal, the rule's, 7 where too little is lent, and else the heads of the two automata.
+#[tactic(auto, unfolding(crate::specs::Outset::outset_of))]
+fn judge(
+    model: Result<Head, Fault>,
+    rule: Result<Head, Fault>,
+    enough: bool,
+) -> Result<(Head, Head), Refusal>
     ensures { result ≡ outset_of model rule enough }
 {
-    let Checked::Good(model_head) = model else {
-        return Outset::Stops(records::refusal_of(0, model));
-    };
-    let Checked::Good(rule_head) = rule else {
-        return Outset::Stops(records::refusal_of(1, rule));
-    };
+    let model_head = records::refusal_of(0, model)?;
+    let rule_head = records::refusal_of(1, rule)?;
     if !enough {
-        return Outset::Stops(Refusal {
-            number: 7,
+        return Err(Refusal {
+            reason: Reason::TooLittleLent,
             which: 0,
             place: 0,
         });
     }
-    Outset::Walks(model_head, rule_head)
+    Ok((model_head, rule_head))
 }
 
 // The room is in range, and the lent buffers are long enough for it.
+#[tactic(auto, unfolding(crate::specs::Outset::long_enough))]
 fn enough(stem_room: usize, period_room: usize, sizes: Sizes) -> bool
     ensures { result ≡ long_enough stem_room period_room sizes }
 {
-    if stem_room == 0 {
-        return false;
-    }
-    if stem_room > 4096 {
-        return false;
-    }
-    if period_room == 0 {
-        return false;
-    }
-    if period_room > 65535 {
-        return false;
-    }
-    if sizes.smallest < stem_room {
-        return false;
-    }
-    if sizes.largest < stem_room {
-        return false;
-    }
-    if sizes.links < period_room {
-        return false;
-    }
-    if sizes.contexts < 2 * period_room {
-        return false;
-    }
-    if sizes.stem < stem_room {
-        return false;
-    }
-    if sizes.period < period_room {
-        return false;
-    }
-    true
+    matches!(stem_room, 1..=4096)
+        && matches!(period_room, 1..=65535)
+        && stem_room <= sizes.smallest
+        && stem_room <= sizes.largest
+        && period_room <= sizes.links
+        && 2 * period_room <= sizes.contexts
+        && stem_room <= sizes.stem
+        && period_room <= sizes.period
 }
 
 // Reads both files into tables, and judges them and what is lent.
@@ -91,7 +64,7 @@ pub fn load(
     sizes: Sizes,
     model_table: &mut [[u16; 16]; 16],
     rule_table: &mut [[u8; 8]; 16],
-) -> Outset
+) -> Result<(Head, Head), Refusal>
     ensures { Loads model.now rule.now (long_enough stem_room period_room sizes) result model_table.new rule_table.new }
 {
     let model_file = records::read(model, 16, model_table);

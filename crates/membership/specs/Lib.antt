@@ -1,4 +1,4 @@
 -- The definitions that the contracts cite.
-pub mod Test
 pub mod Checks
+pub mod Test
 pub mod Meaning

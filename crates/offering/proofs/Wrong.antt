@@ -5,12 +5,13 @@ use mathlib.Core.List.{List, [], ◌∷◌}
 use Prim.Native.Nat.{ℕ, suc, ◌+◌, ◌<◌}
 use native.Mathlib.Omega.{arith}
 use lib.ListN.{length, get_or}
-use Rattle.growth.specs.declared.Growth.TheVariants.{Ended}
+use Rattle.std.specs.Prelude.{Ok}
 use Rattle.growth.specs.Grow.{covered, offer}
 use Rattle.growth.specs.Lent.{growth_of}
 use Rattle.growth.proofs.Offering.{offer_covered}
 use Rattle.covering.specs.Entries.{Period}
 use Rattle.covering.specs.Chained.{Cleared}
+use Rattle.offering.specs.declared.Table.{Table}
 use Rattle.offering.specs.Growing.{Grows}
 
 -- a chain left as it was
@@ -18,9 +19,9 @@ pub chain_left : {chains : List ℕ} {q i : ℕ} → q < 16 → get_or chains q 
 chain_left {q = q} l e c = omega (arith, c.none q l)
 
 -- a covered candidate appended
-pub covered_appended : (covers : Period → Period → Bool) (room : ℕ) (t : List Period) (e : Period) {links₀ links contexts₀ contexts chains : List ℕ}
-    → covered covers t e ≡ true → Grows covers (offer covers room t (e ∷ [])) (Ended (length t + 1)) links₀ links contexts₀ contexts chains → ⊥
-covered_appended covers room t e p g =
-    let same : Ended (length t + 1) ≡ Ended (length t) = g.lent.answer ∙ ap growth_of (offer_covered covers room t e p) in
-    let z : length t + 1 ≡ length t = cc in
+pub covered_appended : (covers : Period → Period → Bool) (room : ℕ) (es : List Period) (e : Period) {s t : Table}
+    → covered covers es e ≡ true → t.n ≡ length es + 1 → Grows (offer covers room es (e ∷ [])) (Ok tt) s t → ⊥
+covered_appended covers room es e {s} {t} p more g =
+    let same : Ok t.n ≡ Ok (length es) = g.lent.answer ∙ ap growth_of (offer_covered covers room es e p) in
+    let z : t.n ≡ length es = cc in
     omega arith

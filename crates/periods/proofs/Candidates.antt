@@ -1,26 +1,34 @@
 -- The candidates as the loops take them are those of the table, and comparing by masks gives the same table. Assumes nothing.
 use mathlib.Core.Path.{◌≡◌, refl, sym, ap, ap₂, ◌∙◌, subst}
-use mathlib.Core.Bool.{Bool, true, ◌&&◌, and-true}
+use mathlib.Core.Bool.{Bool, true, false, ◌&&◌, and-true}
 use mathlib.Core.List.{List, [], ◌∷◌, map-id}
-use Prim.Native.Nat.{ℕ, ◌*◌, ◌%◌, ◌^◌}
+use Prim.Native.Nat.{ℕ, ◌+◌, ◌*◌, ◌%◌, ◌^◌, ◌<◌}
+use native.Mathlib.Omega.{arith}
+use lib.Bits.{bit_and}
+use mir.Syntax.{w16}
+use Rattle.std.specs.Prelude.{Result, Ok, Err, IsErr}
+use Rattle.std.specs.Int.{bit_not, trailing_zeros}
+use Rattle.growth.specs.declared.Full.{Full}
+use Rattle.offering.specs.declared.Table.{Table}
+use Rattle.offering.specs.Growing.{entries_of, Ready, Grows}
 use lib.ListN.{get_or}
-use Rattle.bits.specs.Bits.{bit, weight}
+use Rattle.bits.specs.Bits.{bit}
 use Rattle.bits.specs.Fields.{period_link, link_state}
-use Rattle.bits.specs.Pairs.{pairs, rows_of}
+use Rattle.bits.specs.Pairs.{rows_of}
 use Rattle.bits.proofs.Truth.{or_left}
-use Rattle.bits.proofs.Bits.{bit_mod, bit_zero}
-use Rattle.bits.proofs.Pairs.{pairs_cong}
+use Rattle.bits.proofs.Bits.{bit_zero}
 use Rattle.acceptance.specs.Lasso.{Aut, opens}
 use Rattle.acceptance.specs.Contexts.{Context, idle, longer}
 use Rattle.acceptance.proofs.Contexts.{Fits, longer_fits}
-use Rattle.growth.specs.Grow.{Outcome, ended, full, table}
+use Rattle.growth.specs.Grow.{Outcome, ended, full, offer, table}
 use Rattle.growth.specs.Steps.{gather, steps}
 use Rattle.growth.proofs.Steps.{steps_same, steps_mem}
 use Rattle.growth.proofs.Built.{Inherited}
 use Rattle.growth.proofs.Carried.{mapped, table_map}
+use Rattle.automata.specs.declared.Automaton.{Automaton}
 use Rattle.automata.specs.declared.Head.{Head}
-use Rattle.automata.specs.declared.Pairs8.{Pairs8}
-use Rattle.automata.specs.Loaded.{cell, aut_of, steps_of, of_pairs, as_pairs}
+use Rattle.automata.specs.declared.Context.{Context as Held}
+use Rattle.automata.specs.Loaded.{cell, aut_of, aut, steps_of, of_pairs, as_pairs}
 use Rattle.covering.specs.Entries.{Period, period_covers}
 use Rattle.periods.specs.declared.table.Word.{Word}
 use Rattle.periods.specs.declared.table.Move.{Move}
@@ -28,7 +36,9 @@ use Rattle.periods.specs.Periods.{period_first, word_next, period_next, period_t
 use Rattle.covering.specs.Masks.{covers}
 use Rattle.periods.specs.Candidates.{move_of, at_state, at_letter}
 use Rattle.covering.proofs.Masks.{covers_contained}
-use Rattle.periods.proofs.Loop.{gather_none}
+use Rattle.periods.proofs.Going.{Going}
+use Rattle.periods.proofs.Loop.{gather_none, from, loop_start, loop_end, loop_past, loop_full, loop_on}
+use Rattle.periods.proofs.Rest.{Rest, rest_start, rest_none, low, less, from_i, here, between, rest_on}
 
 -- ---- letter by letter
 
@@ -38,8 +48,52 @@ pub state_some : (by : Move) (q : ℕ) {link : ℕ} → bit by.successors q ≡ 
 unfolding at_state
 state_some by q p e = rw (p, e) refl
 
+-- where it is none there is no candidate
+pub state_none : (by : Move) (q : ℕ) → bit by.successors q ≡ false → at_state by q ≡ []
+unfolding at_state
+state_none by q p = rw p refl
+
+-- ---- successor by successor: of those from i on, which are left, the table is still to get the candidates
+
+pub record Left (by : Move) (rest : ℕ) (s t : Table) : Type 0 where
+  i : ℕ
+  members : Rest by.successors i rest
+  going : Going (offer (covers s.rows) s.room (entries_of s) (at_letter by)) (from (at_state by) 16 s i) s t
+
+pub left_start : (by : Move) {s : Table} → by.successors < 2 ^ 16 → Ready s → Left by by.successors s s
+unfolding at_letter
+left_start by {s} l ready = record { i = 0; members = rest_start by.successors l; going = loop_start (at_state by) 16 s ready }
+
+module _ {by : Move} {rest : ℕ} {s t : Table} (l : Left by rest s t) where
+  pub left_ready : Ready t
+  left_ready = l.going.ready
+
+  pub left_end : rest ≡ 0 → Grows (offer (covers s.rows) s.room (entries_of s) (at_letter by)) (Ok tt) s t
+  left_end e =
+      loop_end (at_state by) 16 s 16
+      (loop_past (at_state by) 16 s l.i l.going 16 l.members.within (omega arith) (λ m h k. state_none by m (rest_none l.members e m h k))) (omega arith)
+
+  -- the candidate at the lowest successor
+  module _ (some : 0 < rest) {q : ℕ} (is : q ≡ trailing_zeros w16 rest) where
+    pub left_low : q < 16
+    left_low = low l.members some is
+
+    pub left_less : bit_and rest (bit_not w16 (1 * 2 ^ q % 2 ^ 16)) < rest
+    left_less = less l.members some is
+
+    going_here : Going (offer (covers s.rows) s.room (entries_of s) (at_letter by)) (from (at_state by) 16 s q) s t
+    going_here = loop_past (at_state by) 16 s l.i l.going q (from_i l.members some is) (omega (arith, left_low)) (λ m h k. state_none by m (between l.members some is m h k))
+
+    module _ {link : ℕ} (e : link ≡ period_link q by.letter by.parent) {r : Result (Unit {0}) Full} {t' : Table}
+        (g : Grows (offer (covers t.rows) t.room (entries_of t) (record { link = link; context = of_pairs by.context } ∷ [])) r t t') where
+      pub left_full : {o : Result (Unit {0}) Full} {lacks : Full} → r ≡ Err lacks → IsErr o → Grows (offer (covers s.rows) s.room (entries_of s) (at_letter by)) o s t'
+      left_full = loop_full (at_state by) 16 s q going_here left_low (state_some by q (here l.members some is) e) g
+
+      pub left_on : r ≡ Ok tt → Left by (bit_and rest (bit_not w16 (1 * 2 ^ q % 2 ^ 16))) s t'
+      left_on ok = record { i = q + 1; members = rest_on l.members some is; going = loop_on (at_state by) 16 s q going_here left_low (state_some by q (here l.members some is) e) g ok }
+
 module _ (model : List (List ℕ)) (B : Aut) (word : Word) where
-  pub move_is : (x : ℕ) {d : Pairs8} → of_pairs d ≡ longer 8 B (of_pairs word.context) x
+  pub move_is : (x : ℕ) {d : Held ℕ} → of_pairs d ≡ longer 8 B (of_pairs word.context) x
       → record { successors = get_or (get_or model x []) word.state 0; letter = x; parent = word.parent; context = d } ≡ move_of model B word x
   unfolding move_of cell
   move_is x e = ap (λ (c : Context). record { successors = get_or (get_or model x []) word.state 0; letter = x; parent = word.parent; context = as_pairs c }) e
@@ -51,7 +105,7 @@ module _ (model : List (List ℕ)) (B : Aut) (word : Word) where
   -- where it leads nowhere there is none
   pub letter_none : (x : ℕ) → get_or (get_or model x []) word.state 0 ≡ 0 → by_letter x ≡ []
   unfolding by_letter at_letter at_state move_of cell
-  letter_none x e = gather_none (at_state (move_of model B word x)) 0 16 (λ q l. rw (e, bit_zero))
+  letter_none x e = gather_none (at_state (move_of model B word x)) 0 16 (λ q. rw (e, bit_zero))
 
   -- all letters
   pub letters_all : word_next (steps_of model) B word.state word.parent (of_pairs word.context) ≡ gather 0 16 by_letter
@@ -83,13 +137,6 @@ first_letters model head B s h =
     sym (steps_same 16 16 (λ x q. A.step s x q && opens A s x q) (λ x q. A.step s x q)
     (λ x q. record { link = period_link q x 65535; context = longer 8 B (idle 8 B.final) x })
     (λ x q. ap (λ (b : Bool). A.step s x q && b) (accepting_opens A s x q h) ∙ and-true (A.step s x q)))
-
--- the accepting states below 8 are those of the low byte
-idle_low : (a : ℕ) → idle 8 (bit (a % 256)) ≡ idle 8 (bit a)
-unfolding idle
-idle_low a =
-    ap (λ (y : ℕ). record { reach = pairs 8 (λ q. 2 ^ q); through = y })
-    (pairs_cong 8 (λ q. weight (bit (a % 256) q) * 2 ^ q) (λ q. weight (bit a q) * 2 ^ q) (λ q l. ap (λ (b : Bool). weight b * 2 ^ q) (bit_mod a 8 q l)))
 
 -- ---- masks
 
@@ -123,14 +170,13 @@ module _ (A B : Aut) (s target room : ℕ) where
 
 -- ---- the table that the code grows is the written one
 
-module _ (model rule : List (List ℕ)) (model-head rule-head : Head) (s target room : ℕ) where
-  pub table_period : {rows : ℕ} {c : Context} → bit model-head.accepting s ≡ true → rows ≡ rows_of 8 target → c ≡ idle 8 (bit (rule-head.accepting % 256))
-      → table (covers rows) (period_next (steps_of model) (aut_of (cell rule) rule-head)) room (word_next (steps_of model) (aut_of (cell rule) rule-head) s 65535 c)
-      ≡ period_table (aut_of (cell model) model-head) (aut_of (cell rule) rule-head) s target room
+module _ (model rule : Automaton (List (List ℕ))) (s target room : ℕ) where
+  pub table_period : {rows k : ℕ} {c : Context} → bit model.head.accepting s ≡ true → rows ≡ rows_of 8 target → k ≡ room → c ≡ idle 8 (aut rule).final
+      → table (covers rows) (period_next (steps_of model.table) (aut rule)) k (word_next (steps_of model.table) (aut rule) s 65535 c) ≡ period_table (aut model) (aut rule) s target room
   unfolding aut_of
-  table_period {c = c} accepts same empty =
-      let B = aut_of (cell rule) rule-head in
-      ap₂ (λ (r : ℕ) (d : Context). table (covers r) (period_next (steps_of model) B) room (word_next (steps_of model) B s 65535 d)) same (empty ∙ idle_low rule-head.accepting)
+  table_period {k = k} {c} accepts same fits empty =
+      ap₂ (λ (r : ℕ) (d : Context). table (covers r) (period_next (steps_of model.table) (aut rule)) k (word_next (steps_of model.table) (aut rule) s 65535 d)) same empty
+      ∙ ap (λ (k : ℕ). table (covers (rows_of 8 target)) (period_next (steps_of model.table) (aut rule)) k (word_next (steps_of model.table) (aut rule) s 65535 (idle 8 (aut rule).final))) fits
       ∙ ap₂ (λ (next : ℕ → Period → List Period) (first : List Period). table (covers (rows_of 8 target)) next room first)
-      (heads_apart model model-head B) (first_letters model model-head B s accepts)
-      ∙ table_masked (aut_of (cell model) model-head) B s target room
+      (heads_apart model.table model.head (aut rule)) (first_letters model.table model.head (aut rule) s accepts)
+      ∙ table_masked (aut model) (aut rule) s target room

@@ -3,13 +3,13 @@
 
 ghost use Rattle.std.specs.Prelude.{◌≡◌, true, ◌+◌, ◌*◌, ◌<◌, ◌≤◌, length};
 ghost use Rattle.bits.specs.Bits.{bit};
-ghost use Rattle.automata.specs.Loaded.{cell, aut_of};
+ghost use Rattle.automata.specs.Loaded.{aut};
 ghost use Rattle.periods.specs.Periods.{period_table};
 ghost use Rattle.offering.specs.Lent.{Leaves};
 
-use automata::{Head, eight};
+use automata::{Model, Rule};
 use bits::rows;
-use growth::Growth;
+use growth::Full;
 
 mod table;
 
@@ -23,24 +23,20 @@ pub fn grow(
     room: usize,
     state: u8,
     target: u8,
-    model: &[[u16; 16]; 16],
-    model_head: Head,
-    rule: &[[u8; 8]; 16],
-    rule_head: Head,
-) -> Growth
+    model: &Model,
+    rule: &Rule,
+) -> Result<usize, Full>
     requires room_bound { (room ≤ 65535) × (room ≤ length links.old) × (2 * room ≤ length contexts.old) × (2 * (16 + room) ≤ length chains.old) × (length chains.old ≤ 131102) }
-    requires state_bound { (state < 16) × (bit model_head.accepting state ≡ true) }
-    ensures { Leaves (period_table (aut_of (cell model.now) model_head) (aut_of (cell rule.now) rule_head) state target room) result
+    requires state_bound { (state < 16) × (bit model.now.head.accepting state ≡ true) }
+    ensures { Leaves (period_table (aut model.now) (aut rule.now) state target room) result
         links.old links.new contexts.old contexts.new }
 {
-    let rows = rows::rows(target);
-    offering::clear(chains);
+    let mut table = offering::Table::new(links, contexts, chains, room, rows::rows(target));
     let word = table::Word {
         state,
         parent: 65535,
-        context: eight::idle((rule_head.accepting % 256) as u8),
+        context: rule.idle(),
     };
-    table::build(
-        links, contexts, chains, room, rows, model, rule, rule_head, word,
-    )
+    table::build(&mut table, model, rule, word)?;
+    Ok(table.n)
 }

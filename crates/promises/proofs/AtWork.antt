@@ -3,6 +3,7 @@ use mathlib.Core.List.{[]}
 use mathlib.Core.Path.{◌≡◌, refl}
 use Prim.Native.Nat.{ℕ}
 use Rattle.bits.specs.Bits.{any}
+use Rattle.adding.specs.declared.reason.Reason.TheVariants.{NoInitialState, TooLittleLent}
 use Rattle.records.specs.Spelled.{is_record, among, started}
 use Rattle.records.specs.Faults.{again, fault, first_fault, good_records, head_of, judged, refusal}
 use Rattle.loading.specs.Outset.{long_enough, outset_of}
@@ -13,8 +14,8 @@ use Rattle.promises.specs.Samples.{I}
 
 -- an empty file has no I, and S = 0 is out of range
 pub order : (P : ℕ) (lent : Buffers)
-    → (decided [] [] 0 P lent ≡ Refused (refusal 6 0 0) none_counted)
-    × (decided (I 0) [] 0 P lent ≡ Refused (refusal 6 1 0) none_counted)
-    × (decided (I 0) (I 0) 0 P lent ≡ Refused (refusal 7 0 0) none_counted)
+    → (decided [] [] 0 P lent ≡ Refused (refusal NoInitialState 0 0) none_counted)
+    × (decided (I 0) [] 0 P lent ≡ Refused (refusal NoInitialState 1 0) none_counted)
+    × (decided (I 0) (I 0) 0 P lent ≡ Refused (refusal TooLittleLent 0 0) none_counted)
 unfolding any is_record among started again fault first_fault good_records head_of judged long_enough outset_of start_of decided
 order P lent = (refl, refl, refl)

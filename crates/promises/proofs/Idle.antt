@@ -3,7 +3,6 @@
 use mathlib.Core.List.{List, [], ◌∷◌}
 use mathlib.Core.Path.{◌≡◌, ap}
 use Prim.Native.Nat.{ℕ}
-use native.Mathlib.Omega.{arith}
 use lib.ListN.{get_or}
 use Rattle.acceptance.specs.Lasso.{Word}
 use Rattle.records.specs.declared.Refusal.{Refusal}
@@ -27,13 +26,13 @@ module _ {model rule : List ℕ} {r : Answer} {new : Buffers} (d : Allowed model
 
   -- where a lasso is shown, the answer is neither included nor a refusal, and where the rule includes the model, none is shown
   not_included : {c : Counts} {l : Lengths} {u v : Word} → reply_to (pair model rule 4096 2048) ≡ decides (says.NotIncluded c l) u v → (c' : Counts) → r ≡ says.Included c' → ⊥
-  not_included e c' q = let f = replies e in let z : ◌≡◌ {A = ℕ} 0 1 = cc in omega arith
+  not_included e c' q = let f = replies e in cc
 
   not_refused : {c : Counts} {l : Lengths} {u v : Word} → reply_to (pair model rule 4096 2048) ≡ decides (says.NotIncluded c l) u v → (refusal : Refusal) (c' : Counts) → r ≡ says.Refused refusal c' → ⊥
-  not_refused e refusal c' q = let f = replies e in let z : ◌≡◌ {A = ℕ} 0 1 = cc in omega arith
+  not_refused e refusal c' q = let f = replies e in cc
 
   not_shown : {c : Counts} → reply_to (pair model rule 4096 2048) ≡ included c → (c' : Counts) (l : Lengths) → r ≡ says.NotIncluded c' l → ⊥
-  not_shown e c' l q = let f = replies e in let z : ◌≡◌ {A = ℕ} 0 1 = cc in omega arith
+  not_shown e c' l q = let f = replies e in cc
 
 -- the reply at an index of a list
 at : ℕ → List Reply → Reply
@@ -76,11 +75,11 @@ module _ {r : Answer} {new : Buffers} where
 
   -- one that does no work at all, whatever it says
   pub no_work : Allowed ALL OFTEN r new → new ≡ lent → ⊥
-  no_work d e = let f = replies d M1 in let z : ◌≡◌ {A = ℕ} 0 1 = cc in omega arith
+  no_work d e = let f = replies d M1 in cc
 
   -- one that always shows the same lasso
   pub same_lasso : {r' : Answer} {new' : Buffers} {u v : Word} → Allowed ALL OFTEN r new → Allowed ONCE (I 0) r' new' → told r new ≡ decides r u v → told r' new' ≡ decides r' u v → ⊥
-  same_lasso d d' e e' = let f = replies d M1 in let f' = replies d' M5 in let z : ◌≡◌ {A = ℕ} 0 1 = cc in omega arith
+  same_lasso d d' e e' = let f = replies d M1 in let f' = replies d' M5 in cc
 
   -- one that builds the first period table and reuses it for each later w: it finds no lasso
   pub first_table_reused : Allowed PAIRED SETTLED r new → (c : Counts) → r ≡ says.Included c → ⊥

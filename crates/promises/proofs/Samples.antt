@@ -12,7 +12,8 @@ use Rattle.growth.specs.Lent.{over}
 use Rattle.automata.specs.Repeated.{via, paths_over, closure, turning, led_on, leading_into, repeated_by, repeated}
 use Rattle.records.specs.Spelled.{is_record, among, started, start_in, named, states_in, spelled, accepting_in}
 use Rattle.records.specs.Faults.{again, fault, first_fault, good_records, head_of, judged}
-use Rattle.membership.specs.Test.{good_letters, verdict, tested_on, tested}
+use Rattle.membership.specs.Checks.{checked}
+use Rattle.membership.specs.Test.{verdict, tested_on, tested}
 use Rattle.stems.specs.Stems.{target_covers, stem_covers, stem_root, stem_next, stem_table}
 use Rattle.covering.specs.Entries.{period_covers, contexts_of}
 use Rattle.periods.specs.Periods.{period_first, word_next, period_next, period_table}
@@ -24,5 +25,5 @@ use Rattle.inclusion.specs.Answers.{start_of, answer_to, decided, left}
 use Rattle.promises.specs.Samples.{samples, pitfalls, Hold}
 
 pub samples_hold : Hold samples × Hold pitfalls
-unfolding digit pack bit weight set_of any all subset union meets moves_to moved pair row pairs contained_on opens idle moved_by passes_by through_by moved_all target longer longer_all context_of append offer grow table gather steps contained over via paths_over closure turning led_on leading_into repeated_by repeated is_record among started start_in named states_in spelled accepting_in again fault first_fault good_records head_of judged good_letters verdict tested_on tested target_covers stem_covers stem_root stem_next stem_table period_covers period_first word_next period_next period_table chain search opening round_at rounds_at rounds contexts_of fits pairs_of accepts run walk ending_by stem_shown period_shown left_by long_enough outset_of start_of answer_to decided left
+unfolding digit pack bit weight set_of any all subset union meets moves_to moved pair row pairs contained_on opens idle moved_by passes_by through_by moved_all target longer longer_all context_of append offer grow table gather steps contained over via paths_over closure turning led_on leading_into repeated_by repeated is_record among started start_in named states_in spelled accepting_in again fault first_fault good_records head_of judged checked verdict tested_on tested target_covers stem_covers stem_root stem_next stem_table period_covers period_first word_next period_next period_table chain search opening round_at rounds_at rounds contexts_of fits pairs_of accepts run walk ending_by stem_shown period_shown left_by long_enough outset_of start_of answer_to decided left
 samples_hold = (refl, refl)

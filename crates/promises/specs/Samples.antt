@@ -1,10 +1,11 @@
 -- Document 01's sample models M1 to M9 as the bytes of their files, with the answers that document 01 gives, in one list; and the pairs that tell its
 -- shortcuts from the walk. Assumes nothing.
-use Rattle.std.specs.Prelude.{◌≡◌, List, [], ◌∷◌, ◌++◌, map, ℕ, length, take, replicate}
+use Rattle.std.specs.Prelude.{◌≡◌, Bool, true, false, Result, Ok, List, [], ◌∷◌, ◌++◌, map, ℕ, length, take, replicate}
 use Rattle.acceptance.specs.Lasso.{Word}
+use Rattle.adding.specs.declared.reason.Reason.{Reason}
+use Rattle.adding.specs.declared.reason.Reason.TheVariants.{StemsFull, PeriodsFull}
+use Rattle.records.specs.declared.Refusal.{Refusal}
 use Rattle.records.specs.Faults.{refusal}
-use Rattle.membership.specs.declared.Tested.{Tested}
-use Rattle.membership.specs.declared.Tested.TheVariants.{Accepted, Rejected}
 use Rattle.membership.specs.Test.{tested}
 use Rattle.search.specs.declared.Counts.{Counts}
 use Rattle.search.specs.declared.Lengths.{Lengths}
@@ -39,7 +40,7 @@ pub data Question : Type 0 where
 -- the answer with the words that are shown, or that of the lasso test
 pub data Reply : Type 0 where
   decides : Answer → (stem period : Word) → Reply
-  tests : Tested → Reply
+  tests : Result Bool Refusal → Reply
 
 -- the words are the first bytes of the outputs
 abbrev pub told : Answer → Buffers → Reply
@@ -57,8 +58,8 @@ included c = decides (says.Included c) [] []
 abbrev pub shown : Counts → (stem period : Word) → Reply
 shown c stem period = decides (says.NotIncluded c (record { stem = length stem; period = length period })) stem period
 
-abbrev pub lacking : (number which place : ℕ) → Counts → Reply
-lacking number which place c = decides (says.Refused (refusal number which place) c) [] []
+abbrev pub lacking : Reason → (which place : ℕ) → Counts → Reply
+lacking reason which place c = decides (says.Refused (refusal reason which place) c) [] []
 
 -- ---- the files
 
@@ -112,12 +113,12 @@ samples =
     ∷ (pair OFTEN OFTEN 4096 2048, included (counted 2 2 2 1))
     ∷ (pair LOOP (I 0) 4096 2048, included (counted 2 1 0 0))
     ∷ (pair ONCE (I 0) 4096 2048, shown (counted 2 1 1 1) [] (0 ∷ []))
-    ∷ (pair ALL OFTEN 1 2048, lacking 8 0 1 (counted 1 0 0 0))
+    ∷ (pair ALL OFTEN 1 2048, lacking StemsFull 0 1 (counted 1 0 0 0))
     ∷ (pair ALL OFTEN 2 2048, shown (counted 2 2 2 2) [] (1 ∷ []))
-    ∷ (pair ALL OFTEN 4096 1, lacking 9 0 1 (counted 2 2 1 0))
+    ∷ (pair ALL OFTEN 4096 1, lacking PeriodsFull 0 1 (counted 2 2 1 0))
     ∷ (pair ALL OFTEN 4096 2, shown (counted 2 2 2 2) [] (1 ∷ []))
-    ∷ (lasso TURNS [] (0 ∷ []), tests Accepted)
-    ∷ (lasso LEAVES [] (0 ∷ []), tests Rejected)
+    ∷ (lasso TURNS [] (0 ∷ []), tests (Ok true))
+    ∷ (lasso LEAVES [] (0 ∷ []), tests (Ok false))
     ∷ []
 
 -- where document 01's shortcuts give the other verdict: one period table for all w, or W by smallest targets (included); an entry at another state of A

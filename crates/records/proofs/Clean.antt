@@ -7,9 +7,10 @@ use Prim.Native.Nat.{ℕ, zero, suc, ◌<◌}
 use native.Mathlib.Nat.{eq-or-lt_of_le, le_of_suc-le-suc}
 use native.Mathlib.Omega.{arith}
 use lib.Dec.{eqb}
-use borrow.Author.Tests.{eq-eqb, ne_eqb}
+use Rattle.std.specs.Prelude.{Option, Some, None, Result}
 use Rattle.bits.specs.Bits.{any}
 use Rattle.bits.proofs.Truth.{or_cases}
+use Rattle.adding.specs.declared.reason.Reason.{Reason}
 use Rattle.adding.specs.declared.Record.{Record}
 use Rattle.records.specs.Spelled.{byte, kind_i, started, start_in}
 use Rattle.records.specs.Faults.{fault, first_fault}
@@ -18,12 +19,12 @@ use Rattle.records.proofs.Says.{Says, initial, accepting, transition, wrong, say
 module _ (states : ℕ) (s : List ℕ) where
   -- the first n records are good
   pub record Clean (n : ℕ) : Type 0 where
-    pub good : (i : ℕ) → i < n → fault states s i ≡ 0
+    pub good : (i : ℕ) → i < n → fault states s i ≡ None
 
   pub clean_none : Clean 0
   clean_none = record { good = λ i h. absurd (omega arith) }
 
-  pub clean_more : (n : ℕ) → Clean n → fault states s n ≡ 0 → Clean (suc n)
+  pub clean_more : (n : ℕ) → Clean n → fault states s n ≡ None → Clean (suc n)
   clean_more n clean e =
       record {
         good = λ i h. ⊎_elim (λ (same : i ≡ n). ap (fault states s) same ∙ e) (λ l. clean.good i l) (eq-or-lt_of_le (le_of_suc-le-suc h));
@@ -34,21 +35,21 @@ module _ (states : ℕ) (s : List ℕ) where
 
   -- ---- the first fault
 
-  pub first_here : (k i : ℕ) → (fault states s i ≡ 0 → ⊥) → first_fault states s (suc k) i ≡ i
+  pub first_here : (k i : ℕ) {reason : Reason} → fault states s i ≡ Some reason → first_fault states s (suc k) i ≡ Some (i, reason)
   unfolding first_fault
-  first_here k i ne = rw (ne_eqb (fault states s i) 0 ne)
+  first_here k i e = rw (e, first_fault)
 
-  pub first_later : (k i : ℕ) → fault states s i ≡ 0 → first_fault states s (suc k) i ≡ first_fault states s k (suc i)
+  pub first_later : (k i : ℕ) → fault states s i ≡ None → first_fault states s (suc k) i ≡ first_fault states s k (suc i)
   unfolding first_fault
-  first_later k i e = rw (eq-eqb (fault states s i) 0 e)
+  first_later k i e = rw (e, first_fault)
 
   -- ---- a good record names a state below the limit
 
-  state_below : (i : ℕ) {r : Record} {f : ℕ} → Says states s i r f → f ≡ 0 → byte s i 1 < states
+  state_below : (i : ℕ) {r : Result Record Reason} {f : Option Reason} → Says states s i r f → f ≡ None → byte s i 1 < states
   state_below i (initial k l) e = l
   state_below i (accepting k l y z) e = l
   state_below i (transition k l m n) e = l
-  state_below i (wrong k) e = absurd (omega arith)
+  state_below i (wrong reason) e = absurd cc
 
   pub start_below : (n : ℕ) → Clean n → started s n ≡ true → start_in s n < states
   unfolding started any start_in

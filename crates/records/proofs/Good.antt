@@ -6,48 +6,27 @@ use mathlib.Core.Path.{◌≡◌, refl, sym, ap, ◌∙◌}
 use Prim.Native.Nat.{ℕ, zero, suc, ◌+◌, ◌*◌, ◌%◌, ◌<◌, ◌≤◌}
 use native.Mathlib.Nat.{eq-or-lt_of_le}
 use native.Mathlib.Omega.{arith}
-use lib.Dec.{eqb, ltb}
+use lib.Dec.{eqb}
 use lib.ListN.{length}
-use borrow.Author.Tests.{eqb-true, ltb-false}
+use Rattle.std.specs.Prelude.{Option, Some, None, Ok, Err}
 use Rattle.automata.specs.declared.Head.{Head}
-use Rattle.records.specs.declared.Checked.{Checked}
-use Rattle.records.specs.declared.Checked.TheVariants.{Good, Refused}
+use Rattle.adding.specs.declared.reason.Reason.{Reason}
+use Rattle.adding.specs.declared.reason.Reason.TheVariants.{BrokenLength, NoInitialState}
 use Rattle.records.specs.Spelled.{count, started}
-use Rattle.records.specs.Faults.{fault, first_fault, good_records, head_of, judged}
-use Rattle.records.proofs.Clean.{Clean}
+use Rattle.records.specs.Faults.{fault, first_fault, good_records, head_of, fault_at, judged}
+use Rattle.records.proofs.Clean.{Clean, first_here, first_later}
 
 module _ (states : ℕ) (s : List ℕ) where
-  -- ---- a first fault past the end is none
-
-  first_within : (k i : ℕ) → first_fault states s k i ≤ i + k
-  unfolding first_fault
-  first_within zero i = omega arith
-  first_within (suc k) i = at (eqb (fault states s i) 0) (first_within k (suc i))
+  -- where no fault is found, each record is good
+  first_none : (k i j : ℕ) → first_fault states s k i ≡ None → i ≤ j → j < i + k → fault states s j ≡ None
+  first_none zero i j h l m = absurd (omega arith)
+  first_none (suc k) i j h l m = at (fault states s i) refl (first_none k (suc i) j)
     where
-      at : (t : Bool) → first_fault states s k (suc i) ≤ suc i + k → cond t (first_fault states s k (suc i)) i ≤ i + suc k
-      at true h = omega arith
-      at false h = omega arith
-
-  first_past : (k i j : ℕ) → i + k ≤ first_fault states s k i → i ≤ j → j < i + k → fault states s j ≡ 0
-  unfolding first_fault
-  first_past zero i j h l m = absurd (omega arith)
-  first_past (suc k) i j h l m = at (eqb (fault states s i) 0) refl h (first_past k (suc i) j)
-    where
-      at : (t : Bool) → eqb (fault states s i) 0 ≡ t → i + suc k ≤ cond t (first_fault states s k (suc i)) i
-          → (suc i + k ≤ first_fault states s k (suc i) → suc i ≤ j → j < suc i + k → fault states s j ≡ 0) → fault states s j ≡ 0
-      at true e past later =
-          ⊎_elim (λ (same : i ≡ j). ap (fault states s) (sym same) ∙ eqb-true (fault states s i) 0 e) (λ n. later (omega arith) n (omega arith)) (eq-or-lt_of_le l)
-      at false e past later = absurd (omega arith)
-
-  -- ---- what Good says
-
-  unless : {h : Head} (t : Bool) (number place : ℕ) {x : Checked} → cond t x (Refused number place) ≡ Good h → (t ≡ true) × (x ≡ Good h)
-  unless true k p e = (refl, e)
-  unless false k p e = let z : ◌≡◌ {A = ℕ} 0 1 = cc in absurd (omega arith)
-
-  unless_not : {h : Head} (t : Bool) (number place : ℕ) {x : Checked} → cond t (Refused number place) x ≡ Good h → (t ≡ false) × (x ≡ Good h)
-  unless_not true k p e = let z : ◌≡◌ {A = ℕ} 0 1 = cc in absurd (omega arith)
-  unless_not false k p e = (refl, e)
+      at : (f : Option Reason) → fault states s i ≡ f → (first_fault states s k (suc i) ≡ None → suc i ≤ j → j < suc i + k → fault states s j ≡ None)
+          → fault states s j ≡ None
+      at None e later =
+          ⊎_elim (λ (same : i ≡ j). ap (fault states s) (sym same) ∙ e) (λ n. later (sym (first_later states s k i e) ∙ h) n (omega arith)) (eq-or-lt_of_le l)
+      at (Some reason) e later = absurd (let found = sym (first_here states s k i e) ∙ h in cc)
 
   pub record GoodFile (h : Head) : Type 0 where
     pub whole : good_records states s ≡ count s
@@ -55,18 +34,22 @@ module _ (states : ℕ) (s : List ℕ) where
     pub begins : started s (count s) ≡ true
     pub head_is : h ≡ head_of s
 
-  pub good_file : {h : Head} → judged states s ≡ Good h → GoodFile h
+  pub good_file : {h : Head} → judged states s ≡ Ok h → GoodFile h
   unfolding judged good_records
-  good_file {h} e =
-      let even = unless (eqb (length s % 4) 0) 1 (4 * count s) e in
-      let all = unless_not (ltb (good_records states s) (count s)) (fault states s (good_records states s)) (4 * good_records states s) even.1 in
-      let begun = unless (started s (count s)) 6 (length s) all.1 in
-      let first : good_records states s ≡ first_fault states s (count s) 0 = rw even.0 in
-      let end = ltb-false (good_records states s) (count s) all.0 in
-      let within = first_within (count s) 0 in
-      record {
-        whole = omega arith;
-        clean = record { good = λ j l. first_past (count s) 0 j (omega arith) (omega arith) (omega arith) };
-        begins = begun.0;
-        head_is = cc begun.1;
-      }
+  good_file {h} e = at (eqb (length s % 4) 0) refl (first_fault states s (count s) 0) refl (started s (count s)) refl e
+    where
+      at : (t : Bool) → eqb (length s % 4) 0 ≡ t → (f : Option (ℕ × Reason)) → first_fault states s (count s) 0 ≡ f → (b : Bool) → started s (count s) ≡ b
+          → cond t (elim f [
+            | None ↦ cond b (Ok (head_of s)) (Err (fault_at NoInitialState (length s)))
+            | Some first ↦ Err (fault_at first.1 (4 * first.0))
+          ]) (Err (fault_at BrokenLength (4 * count s))) ≡ Ok h → GoodFile h
+      at true even None none true begins e =
+          record {
+            whole = rw (even, none, good_records);
+            clean = record { good = λ j l. first_none (count s) 0 j none (omega arith) (omega arith) };
+            begins = begins;
+            head_is = cc;
+          }
+      at true even None none false begins e = absurd cc
+      at true even (Some first) found b begins e = absurd cc
+      at false odd f found b begins e = absurd cc

@@ -1,5 +1,5 @@
 -- A good file has exactly one I record, and it names the initial state. Assumes nothing.
-use mathlib.Core.Bool.{Bool, true, false, cond, false≢true}
+use mathlib.Core.Bool.{Bool, true, false, false≢true}
 use mathlib.Core.List.{List}
 use mathlib.Core.Logic.{⊎_elim}
 use mathlib.Core.Path.{◌≡◌, refl, sym, ap, ◌∙◌}
@@ -11,11 +11,12 @@ use borrow.Author.Tests.{eqb-true, eq-eqb, ne_eqb}
 use Rattle.bits.proofs.Digits.{lt_or_ge}
 use Rattle.bits.proofs.Quantifiers.{any_intro, any_elim}
 use Rattle.automata.specs.declared.Head.{Head}
-use Rattle.records.specs.declared.Checked.TheVariants.{Good}
+use Rattle.std.specs.Prelude.{Option, None, Result, Ok}
+use Rattle.adding.specs.declared.reason.Reason.{Reason}
 use Rattle.adding.specs.declared.Record.{Record}
 use Rattle.records.specs.Spelled.{byte, count, kind_i, started, start_in, spelled}
 use Rattle.records.specs.Faults.{again, fault, judged}
-use Rattle.records.proofs.Says.{Says, initial, accepting, transition, wrong, says}
+use Rattle.records.proofs.Says.{Says, initial, accepting, transition, wrong, says, repeated}
 use Rattle.records.proofs.Turn.{again_initial}
 use Rattle.records.proofs.Clean.{Clean, clean_less}
 use Rattle.records.proofs.Good.{good_file}
@@ -28,20 +29,20 @@ pub record OneInitial (s : List ℕ) : Type 0 where
   pub named : (spelled s).start ≡ byte s at 1
   pub alone : (i : ℕ) → i < count s → byte s i 0 ≡ kind_i → i ≡ at
 
-unless_five : (t : Bool) → cond {A = ℕ} t 5 0 ≡ 0 → t ≡ false
-unless_five true e = absurd (omega arith)
-unless_five false e = refl
+unless_repeated : (t : Bool) → repeated t ≡ None → t ≡ false
+unless_repeated true e = absurd cc
+unless_repeated false e = refl
 
 module _ (states : ℕ) (s : List ℕ) where
   -- a good record was not there before
-  not_again : (i : ℕ) {r : Record} {f : ℕ} → Says states s i r f → f ≡ 0 → again s i ≡ false
-  not_again i (initial k l) e = unless_five (again s i) e
-  not_again i (accepting k l y z) e = unless_five (again s i) e
-  not_again i (transition k l m n) e = unless_five (again s i) e
-  not_again i (wrong k) e = absurd (omega arith)
+  not_again : (i : ℕ) {r : Result Record Reason} {f : Option Reason} → Says states s i r f → f ≡ None → again s i ≡ false
+  not_again i (initial k l) e = unless_repeated (again s i) e
+  not_again i (accepting k l y z) e = unless_repeated (again s i) e
+  not_again i (transition k l m n) e = unless_repeated (again s i) e
+  not_again i (wrong reason) e = absurd cc
 
   -- no I before a good one
-  none_before : (i j : ℕ) → fault states s i ≡ 0 → byte s i 0 ≡ kind_i → j < i → byte s j 0 ≡ kind_i → ⊥
+  none_before : (i j : ℕ) → fault states s i ≡ None → byte s i 0 ≡ kind_i → j < i → byte s j 0 ≡ kind_i → ⊥
   unfolding started
   none_before i j good k l m =
       false≢true
@@ -57,7 +58,7 @@ module _ (states : ℕ) (s : List ℕ) where
       (λ l. rw (ne_eqb (byte s n 0) kind_i (λ m. none_before n i (clean.good n (omega arith)) m l k)) (start_at n i (clean_less states s n clean) l k))
       (eq-or-lt_of_le (le_of_suc-le-suc h))
 
-  pub spelled_start : {h : Head} → judged states s ≡ Good h → OneInitial s
+  pub spelled_start : {h : Head} → judged states s ≡ Ok h → OneInitial s
   unfolding started spelled
   spelled_start e =
       let file = good_file states s e in

@@ -9,4 +9,5 @@ pub mod Good
 pub mod Initial
 pub mod Limits
 pub mod Loaded
+pub mod Parts
 pub mod Wrong

@@ -13,7 +13,8 @@ use Rattle.bits.proofs.Quantifiers.{any_elim}
 use Rattle.bits.proofs.Truth.{and_left, and_right, or_cases}
 use Rattle.acceptance.specs.Contexts.{Small}
 use Rattle.automata.specs.declared.Head.{Head}
-use Rattle.records.specs.declared.Checked.TheVariants.{Good}
+use Rattle.std.specs.Prelude.{Option, None, Result, Ok}
+use Rattle.adding.specs.declared.reason.Reason.{Reason}
 use Rattle.adding.specs.declared.Record.{Record}
 use Rattle.records.specs.Spelled.{byte, count, kind_i, kind_f, kind_t, is_record, among, started, start_in, named, states_in, spelled, accepting_in}
 use Rattle.records.specs.Faults.{head_of, judged}
@@ -85,12 +86,12 @@ module _ (s : List ℕ) where
 -- ---- good records keep to the limits
 
 module _ (states : ℕ) (s : List ℕ) where
-  named_below : (i : ℕ) {r : Record} {f : ℕ} → Says states s i r f → f ≡ 0 → named s i ≤ states
+  named_below : (i : ℕ) {r : Result Record Reason} {f : Option Reason} → Says states s i r f → f ≡ None → named s i ≤ states
   unfolding named
   named_below i (initial k l) e = rw k (omega arith)
   named_below i (accepting k l y z) e = rw k (omega arith)
   named_below i (transition k l m n) e = rw k (omega arith)
-  named_below i (wrong k) e = absurd (omega arith)
+  named_below i (wrong reason) e = absurd cc
 
   states_below : (n : ℕ) → Clean states s n → states_in s n ≤ states
   unfolding states_in
@@ -100,11 +101,11 @@ module _ (states : ℕ) (s : List ℕ) where
       let here = named_below n (says states s n) (clean.good n (omega arith)) in
       omega arith
 
-  letter_below : (i : ℕ) {r : Record} {f : ℕ} → Says states s i r f → f ≡ 0 → byte s i 0 ≡ kind_t → byte s i 2 < 16
+  letter_below : (i : ℕ) {r : Result Record Reason} {f : Option Reason} → Says states s i r f → f ≡ None → byte s i 0 ≡ kind_t → byte s i 2 < 16
   letter_below i (initial k l) e t = absurd (omega arith)
   letter_below i (accepting k l y z) e t = absurd (omega arith)
   letter_below i (transition k l m n) e t = m
-  letter_below i (wrong k) e t = absurd (omega arith)
+  letter_below i (wrong reason) e t = absurd cc
 
 -- ---- the limits
 
@@ -116,7 +117,7 @@ pub record Limits (states : ℕ) (s : List ℕ) (h : Head) : Type 0 where
   pub final_within : (q : ℕ) → (spelled s).final q ≡ true → q < h.states
   pub small : Small h.states (spelled s)
 
-pub spelled_small : (states : ℕ) (s : List ℕ) {h : Head} → judged states s ≡ Good h → Limits states s h
+pub spelled_small : (states : ℕ) (s : List ℕ) {h : Head} → judged states s ≡ Ok h → Limits states s h
 unfolding head_of spelled accepting_in
 spelled_small states s {h} e =
     let file = good_file states s e in

@@ -13,7 +13,7 @@ use Rattle.bits.proofs.Digits.{lt_or_ge}
 use Rattle.bits.proofs.Truth.{bool_same, false_from}
 use Rattle.automata.specs.declared.Head.{Head}
 use Rattle.automata.specs.Loaded.{cell, aut_of}
-use Rattle.records.specs.declared.Checked.TheVariants.{Good}
+use Rattle.std.specs.Prelude.{Ok}
 use Rattle.records.specs.Spelled.{count, kind_f, kind_t, among, spelled, table_of, accepting_in}
 use Rattle.records.specs.Faults.{good_records, head_of, judged}
 use Rattle.records.specs.Narrow.{narrow_cell, narrow_row, narrow}
@@ -23,7 +23,7 @@ use Rattle.records.proofs.Good.{good_file}
 use Rattle.records.proofs.Limits.{Limits, spelled_small}
 
 -- a table with n sets to a row, of an automaton of n states: cell by cell it has the T records
-module _ (n : ℕ) (few : n ≤ 16) (s : List ℕ) {h : Head} (good : judged n s ≡ Good h)
+module _ (n : ℕ) (few : n ≤ 16) (s : List ℕ) {h : Head} (good : judged n s ≡ Ok h)
     (f : ℕ → ℕ → ℕ) (fits : (x p : ℕ) → f x p < 2 ^ n)
     (same : (x p q : ℕ) → x < 16 → p < n → q < n → bit (f x p) q ≡ among s (count s) kind_t p x q) where
   limits : Limits n s h
@@ -67,13 +67,13 @@ module _ (s : List ℕ) where
   read_bit : (x p q : ℕ) → q < 16 → bit (cell_in s (count s) x p) q ≡ among s (count s) kind_t p x q
   read_bit x p q l = bit_set_of (λ q. among s (count s) kind_t p x q) 16 q l
 
-  pub loaded_model : {h : Head} → judged 16 s ≡ Good h → aut_of (cell (table_of s (good_records 16 s))) h ≡ spelled s
+  pub loaded_model : {h : Head} → judged 16 s ≡ Ok h → aut_of (cell (table_of s (good_records 16 s))) h ≡ spelled s
   unfolding table_of
   loaded_model good =
       rw (good_file 16 s good).whole
       (loaded 16 (lit≤ tt) s good (cell_in s (count s)) (λ x p. set_of_lt (λ q. among s (count s) kind_t p x q) 16) (λ x p q l k m. read_bit x p q m))
 
-  pub loaded_rule : {h : Head} → judged 8 s ≡ Good h → aut_of (cell (narrow (table_of s (good_records 8 s)))) h ≡ spelled s
+  pub loaded_rule : {h : Head} → judged 8 s ≡ Ok h → aut_of (cell (narrow (table_of s (good_records 8 s)))) h ≡ spelled s
   unfolding narrow narrow_row narrow_cell
   loaded_rule good =
       let read = table_of s (count s) in

@@ -1,25 +1,24 @@
 -- Reading a file record by record gives the answer that it should have, and the table of the records before the first fault. Assumes nothing.
-use mathlib.Core.Bool.{Bool, true, false, not, cond}
+use mathlib.Core.Bool.{true, not, cond}
 use mathlib.Core.List.{List, []}
-use mathlib.Core.Path.{◌≡◌, refl, sym, ap, ap₂, subst, ◌∙◌}
+use mathlib.Core.Path.{◌≡◌, refl, sym, ap, subst, ◌∙◌}
 use Prim.Native.Nat.{ℕ, suc, ◌+◌, ◌-◌, ◌*◌, ◌%◌, ◌<◌, ◌≤◌}
 use native.Mathlib.Numerals.{add-one}
 use native.Mathlib.Omega.{arith}
-use lib.Dec.{eqb, ltb}
+use lib.Dec.{eqb}
 use lib.ListN.{length}
-use borrow.Author.Tests.{eqb-true, eqb-false, eq-eqb, ne_eqb, lt-ltb, le-ltb}
+use borrow.Author.Tests.{eq-eqb, ne_eqb}
+use Rattle.std.specs.Prelude.{Option, Some, None, Result, Ok, Err, MatchResult}
 use Rattle.bits.specs.Bits.{pack, weight, set_of, any}
 use Rattle.automata.specs.declared.Head.{Head}
-use Rattle.records.specs.declared.Checked.{Checked}
-use Rattle.records.specs.declared.Checked.TheVariants.{Good, Refused}
-use Rattle.adding.specs.declared.Record.{Record}
-use Rattle.adding.specs.declared.Step.{Step}
-use Rattle.adding.specs.declared.Step.TheVariants.{On, Stop}
+use Rattle.adding.specs.declared.reason.Reason.{Reason}
+use Rattle.adding.specs.declared.reason.Reason.TheVariants.{BrokenLength, NoInitialState}
+use Rattle.adding.specs.Steps.{record_at, step_by, table_by}
+use Rattle.records.specs.declared.Fault.{Fault}
 use Rattle.records.specs.Spelled.{count, among, accepting_in, states_in, started, start_in, table_of}
-use Rattle.records.specs.Faults.{fault, first_fault, good_records, head_of, judged}
-use Rattle.adding.specs.Steps.{record_at, step_by, table_by, stop_of}
+use Rattle.records.specs.Faults.{fault, first_fault, good_records, head_of, fault_at, placed, judged}
 use Rattle.records.proofs.Clean.{Clean, clean_none, clean_more, first_here, first_later, start_below}
-use Rattle.records.proofs.Turn.{head_in, start_test, turn_step, turn_table}
+use Rattle.records.proofs.Turn.{head_in, start_test, led, kept, turn_step, turn_table}
 
 module _ (states : ℕ) (s : List ℕ) where
   -- what holds before record i is read
@@ -31,7 +30,7 @@ module _ (states : ℕ) (s : List ℕ) where
     pub head_is : head ≡ head_in s i
 
   -- the answer and the table of a file
-  abbrev pub Answered : Checked → List (List ℕ) → Type 0
+  abbrev pub Answered : Result Head Fault → List (List ℕ) → Type 0
   Answered answer table = (answer ≡ judged states s) × (table ≡ table_of s (good_records states s))
 
   pub begun : {table : List (List ℕ)} → table ≡ table_of [] 0 → Reading table (record { start = 16; accepting = 0; states = 0 }) 0
@@ -45,22 +44,14 @@ module _ (states : ℕ) (s : List ℕ) where
         head_is = refl;
       }
 
-  pub odd : {table : List (List ℕ)} → table ≡ table_of [] 0 → (length s % 4 ≡ 0 → ⊥) → Answered (Refused 1 (4 * count s)) table
+  pub odd : {table : List (List ℕ)} → table ≡ table_of [] 0 → (length s % 4 ≡ 0 → ⊥) → Answered (Err (fault_at BrokenLength (4 * count s))) table
   unfolding judged good_records table_of among any
   odd e ne = simp (ne_eqb (length s % 4) 0 ne) (refl, e)
 
   module _ (even : length s % 4 ≡ 0) where
-    first_is : (n : ℕ) → first_fault states s (count s) 0 ≡ n → good_records states s ≡ n
-    unfolding good_records
-    first_is n e = simp (eq-eqb (length s % 4) 0 even) e
-
-    judged_is : (n : ℕ) → good_records states s ≡ n
-        → judged states s ≡ cond (ltb n (count s)) (Refused (fault states s n) (4 * n)) (cond (started s (count s)) (Good (head_of s)) (Refused 6 (length s)))
-    unfolding judged
-    judged_is n e = simp (eq-eqb (length s % 4) 0 even, e)
-
-    at_fault : (i : ℕ) → first_fault states s (count s) 0 ≡ i → i < count s → Answered (Refused (fault states s i) (4 * i)) (table_of s i)
-    at_fault i e h = let g = first_is i e in (sym (judged_is i g ∙ simp (lt-ltb i (count s) h)), ap (table_of s) (sym g))
+    at_fault : (i : ℕ) {reason : Reason} → first_fault states s (count s) 0 ≡ Some (i, reason) → Answered (Err (fault_at reason (4 * i))) (table_of s i)
+    unfolding judged good_records
+    at_fault i e = let whole = eq-eqb (length s % 4) 0 even in (rw (whole, e, judged), rw (whole, e, good_records))
 
     -- ---- no record is left
 
@@ -68,12 +59,13 @@ module _ (states : ℕ) (s : List ℕ) where
       place : i ≡ count s
       place = let h = all.within in omega arith
 
-      at_end : Answered (cond (started s (count s)) (Good (head_of s)) (Refused 6 (length s))) table
-      unfolding first_fault
+      at_end : Answered (cond (started s (count s)) (Ok (head_of s)) (Err (fault_at NoInitialState (length s)))) table
+      unfolding first_fault judged good_records
       at_end =
-          let none : count s - i ≡ 0 = omega arith in
-          let g = first_is (count s) (sym all.rest ∙ ap₂ (first_fault states s) none place) in
-          (sym (judged_is (count s) g ∙ simp (le-ltb (count s) (count s) (omega arith))), all.table_is ∙ ap (table_of s) (place ∙ sym g))
+          let whole = eq-eqb (length s % 4) 0 even in
+          let left : count s - i ≡ 0 = omega arith in
+          let none : first_fault states s (count s) 0 ≡ None = sym all.rest ∙ ap (λ (k : ℕ). first_fault states s k i) left in
+          (rw (whole, none, judged), all.table_is ∙ ap (table_of s) place ∙ rw (whole, none, good_records))
 
       test : not (eqb head.start 16) ≡ started s (count s)
       test =
@@ -81,63 +73,45 @@ module _ (states : ℕ) (s : List ℕ) where
           ∙ start_test states s (count s) small
           (λ e. let h = start_below states s (count s) (subst (Clean states s) place all.clean) e in omega arith)
 
-      pub no_start : head.start ≡ 16 → Answered (Refused 6 (length s)) table
+      pub no_start : head.start ≡ 16 → Answered (Err (fault_at NoInitialState (length s))) table
       no_start e = rw (sym test ∙ ap not (eq-eqb head.start 16 e)) at at_end
 
-      pub good_file : (head.start ≡ 16 → ⊥) → Answered (Good head) table
+      pub good_file : (head.start ≡ 16 → ⊥) → Answered (Ok head) table
       unfolding head_in head_of
       good_file ne =
           let given : started s (count s) ≡ true = sym test ∙ ap not (ne_eqb head.start 16 ne) in
           let answer = rw given at at_end in
-          (ap Good (all.head_is ∙ ap (head_in s) place ∙ rw given) ∙ answer.0, answer.1)
+          (ap Ok (all.head_is ∙ ap (head_in s) place ∙ rw given) ∙ answer.0, answer.1)
 
-  -- ---- a turn: record i has been judged and added
+  -- ---- a turn: record i is judged and added
 
-  pub record Turned (table : List (List ℕ)) (step : Step) (i : ℕ) : Type 0 where
-    pub more : i < count s
-    pub clean : Clean states s i
-    pub rest : first_fault states s (suc (count s - suc i)) i ≡ first_fault states s (count s) 0
-    pub step_is : step ≡ cond (eqb (fault states s i) 0) (On (head_in s (suc i))) (Stop (fault states s i))
-    pub table_is : table ≡ cond (eqb (fault states s i) 0) (table_of s (suc i)) (table_of s i)
-
-  pub turned : states ≤ 16 → {table table' : List (List ℕ)} {head : Head} {r : Record} {step : Step} {i : ℕ} → Reading table head i → i < count s
-      → r ≡ record_at states s i → step ≡ step_by table head r → table' ≡ table_by table r → Turned table' step i
-  turned small {i} before more is stepped filled =
-      record {
-        more = more;
-        clean = before.clean;
-        rest = ap (λ (k : ℕ). first_fault states s k i) (omega arith) ∙ before.rest;
-        step_is = stepped ∙ rw (before.table_is, before.head_is, is) (turn_step states s i small start_small);
-        table_is = filled ∙ rw (before.table_is, is) (turn_table states s i small start_small);
-      }
+  pub turned : length s % 4 ≡ 0 → states ≤ 16 → {table next_table : List (List ℕ)} {head : Head} {r : Result Head Fault} {i : ℕ} → Reading table head i → i < count s
+      → r ≡ placed i (step_by table head (record_at states s i)) → next_table ≡ table_by table (record_at states s i)
+      → MatchResult r (λ next. Reading next_table next (i + 1)) (λ fault. Answered (Err fault) next_table)
+  turned even small {table} {next_table} {head} {i = i} before more stepped filled =
+      rw (stepped, step_is, filled, table_is, add-one) (at (fault states s i) refl)
     where
       start_small : started s i ≡ true → start_in s i < 16
       start_small e = let h = start_below states s i before.clean e in omega arith
 
-  module _ {table : List (List ℕ)} {step : Step} {i : ℕ} (turn : Turned table step i) where
-    pub went_on : {next : Head} → step ≡ On next → Reading table next (i + 1)
-    went_on {next} e = rw add-one (at (eqb (fault states s i) 0) refl turn.step_is turn.table_is)
-      where
-        at : (t : Bool) → eqb (fault states s i) 0 ≡ t → step ≡ cond t (On (head_in s (suc i))) (Stop (fault states s i))
-            → table ≡ cond t (table_of s (suc i)) (table_of s i) → Reading table next (suc i)
-        at true f g h =
-            let none = eqb-true (fault states s i) 0 f in
-            record {
-              within = turn.more;
-              clean = clean_more states s i turn.clean none;
-              rest = sym (first_later states s (count s - suc i) i none) ∙ turn.rest;
-              table_is = h;
-              head_is = cc;
-            }
-        at false f g h = let never : ◌≡◌ {A = ℕ} 0 1 = cc in absurd (omega arith)
+      step_is : step_by table head (record_at states s i) ≡ led (fault states s i) (head_in s (suc i))
+      step_is = rw (before.table_is, before.head_is) (turn_step states s i small start_small)
 
-    pub stopped : length s % 4 ≡ 0 → {k m : ℕ} → step ≡ Stop m → k ≡ stop_of step → Answered (Refused k (4 * i)) table
-    stopped even {k} e number = at (eqb (fault states s i) 0) refl turn.step_is turn.table_is
-      where
-        at : (t : Bool) → eqb (fault states s i) 0 ≡ t → step ≡ cond t (On (head_in s (suc i))) (Stop (fault states s i))
-            → table ≡ cond t (table_of s (suc i)) (table_of s i) → Answered (Refused k (4 * i)) table
-        at true f g h = let never : ◌≡◌ {A = ℕ} 0 1 = cc in absurd (omega arith)
-        at false f g h =
-            let first = sym turn.rest ∙ first_here states s (count s - suc i) i (eqb-false (fault states s i) 0 f) in
-            let answer = at_fault even i first turn.more in
-            (ap (λ (n : ℕ). Refused n (4 * i)) (number ∙ ap stop_of g) ∙ answer.0, h ∙ answer.1)
+      table_is : table_by table (record_at states s i) ≡ kept (fault states s i) (table_of s (suc i)) (table_of s i)
+      table_is = rw before.table_is (turn_table states s i small start_small)
+
+      rest : first_fault states s (suc (count s - suc i)) i ≡ first_fault states s (count s) 0
+      rest = ap (λ (k : ℕ). first_fault states s k i) (omega arith) ∙ before.rest
+
+      at : (f : Option Reason) → fault states s i ≡ f
+          → MatchResult (placed i (led f (head_in s (suc i)))) (λ next. Reading (kept f (table_of s (suc i)) (table_of s i)) next (suc i))
+          (λ fault. Answered (Err fault) (kept f (table_of s (suc i)) (table_of s i)))
+      at None none =
+          record {
+            within = more;
+            clean = clean_more states s i before.clean none;
+            rest = sym (first_later states s (count s - suc i) i none) ∙ rest;
+            table_is = refl;
+            head_is = refl;
+          }
+      at (Some reason) met = at_fault even i (sym rest ∙ first_here states s (count s - suc i) i met)

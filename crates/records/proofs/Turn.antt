@@ -4,7 +4,7 @@ use mathlib.Core.List.{List}
 use mathlib.Core.Path.{◌≡◌, refl, sym, ap, ap₂, ◌∙◌}
 use Prim.Native.Nat.{ℕ, suc, max, ◌^◌, ◌<◌, ◌≤◌}
 use native.Mathlib.Omega.{arith}
-use lib.Dec.{eqb, eqb-suc-zero}
+use lib.Dec.{eqb}
 use borrow.Author.Tests.{ne_eqb}
 use Rattle.bits.specs.Bits.{bit, any}
 use Rattle.bits.specs.Sets.{union}
@@ -12,35 +12,44 @@ use Rattle.bits.proofs.Bits.{bit_set_of}
 use Rattle.automata.specs.declared.Head.{Head}
 use Rattle.automata.specs.Loaded.{cell}
 use Rattle.adding.specs.declared.Record.{Record}
-use Rattle.adding.specs.declared.Step.{Step}
-use Rattle.adding.specs.declared.Step.TheVariants.{On, Stop}
+use Rattle.adding.specs.declared.reason.Reason.{Reason}
+use Rattle.adding.specs.declared.reason.Reason.TheVariants.{ThereAlready}
+use Rattle.std.specs.Prelude.{Option, Some, None, Result, Ok, Err}
 use Rattle.records.specs.Spelled.{byte, kind_i, kind_f, kind_t, among, started, start_in, named, states_in, table_of, accepting_in}
 use Rattle.records.specs.Faults.{again, fault}
 use Rattle.adding.specs.Steps.{record_at, initial_step, accepting_step, transition_step, step_by, transition_table, table_by}
-use Rattle.records.proofs.Says.{Says, initial, accepting, transition, wrong, says}
+use Rattle.records.proofs.Says.{Says, initial, accepting, transition, wrong, says, repeated}
 use Rattle.records.proofs.Added.{table_at, accepting_other, table_other, accepting_more, table_more}
 
 -- the head of the first n records, its start 16 where none of them names one
 unfoldable pub head_in : List ℕ → ℕ → Head
 head_in s n = record { start = cond (started s n) (start_in s n) 16; accepting = accepting_in s n; states = states_in s n }
 
--- ---- answers by one test, by the refusal 5
+-- ---- what comes of a record, by the refusal that it meets
+
+abbrev pub led : Option Reason → Head → Result Head Reason
+led None next = Ok next
+led (Some reason) next = Err reason
+
+abbrev pub kept : {A : Type 0} → Option Reason → A → A → A
+kept None next now = next
+kept (Some reason) next now = now
+
+led_or : (t : Bool) (h : Head) → cond t (Err ThereAlready) (Ok h) ≡ led (repeated t) h
+led_or true h = refl
+led_or false h = refl
 
 module _ {A : Type 0} where
-  refused_or : (t : Bool) (a b : A) → cond t a b ≡ cond (eqb (cond t 5 0) 0) b a
-  refused_or true a b = refl
-  refused_or false a b = refl
+  kept_or : (t : Bool) (now next : A) → cond t now next ≡ kept (repeated t) next now
+  kept_or true now next = refl
+  kept_or false now next = refl
 
-  same_or : (t : Bool) {a b : A} → a ≡ b → a ≡ cond t b a
-  same_or true e = e
-  same_or false e = refl
+  kept_same : (f : Option Reason) {now next : A} → now ≡ next → now ≡ kept f next now
+  kept_same None e = e
+  kept_same (Some reason) e = refl
 
-abbrev step : Bool → Head → Step
-step t h = cond t (Stop 5) (On h)
-
-stop_or : (t : Bool) (h : Head) → cond t (Stop 5) (On h) ≡ cond (eqb (cond t 5 0) 0) (On h) (Stop (cond t 5 0))
-stop_or true h = refl
-stop_or false h = refl
+abbrev step : Bool → Head → Result Head Reason
+step t h = cond t (Err ThereAlready) (Ok h)
 
 module _ (s : List ℕ) (i : ℕ) where
   -- ---- `again` is a test of what was read
@@ -89,28 +98,27 @@ module _ (states : ℕ) (s : List ℕ) (i : ℕ) (small : states ≤ 16) (start_
       at true e = ap not (ne_eqb (start_in s i) 16 (λ (m : start_in s i ≡ 16). let h = start_small e in omega arith))
       at false e = refl
 
-  stepped : {r : Record} {f : ℕ} → Says states s i r f
-      → step_by (table_of s i) (head_in s i) r ≡ cond (eqb f 0) (On (head_in s (suc i))) (Stop f)
+  stepped : {r : Result Record Reason} {f : Option Reason} → Says states s i r f → step_by (table_of s i) (head_in s i) r ≡ led f (head_in s (suc i))
   unfolding initial_step accepting_step transition_step head_in
-  stepped (initial k l) = ap₂ step (start_test ∙ sym (again_initial s i k)) (head_initial s i k) ∙ stop_or (again s i) (head_in s (suc i))
+  stepped (initial k l) = ap₂ step (start_test ∙ sym (again_initial s i k)) (head_initial s i k) ∙ led_or (again s i) (head_in s (suc i))
   stepped (accepting k l y z) =
-      ap₂ step (sym (again_accepting s i k (omega arith) y z)) (head_accepting s i k y z) ∙ stop_or (again s i) (head_in s (suc i))
+      ap₂ step (sym (again_accepting s i k (omega arith) y z)) (head_accepting s i k y z) ∙ led_or (again s i) (head_in s (suc i))
   stepped (transition k l m n) =
-      ap₂ step (sym (again_transition s i k (omega arith) m (omega arith))) (head_transition s i k) ∙ stop_or (again s i) (head_in s (suc i))
-  stepped (wrong k) = rw (eqb-suc-zero k)
+      ap₂ step (sym (again_transition s i k (omega arith) m (omega arith))) (head_transition s i k) ∙ led_or (again s i) (head_in s (suc i))
+  stepped (wrong reason) = refl
 
-  filled : {r : Record} {f : ℕ} → Says states s i r f → table_by (table_of s i) r ≡ cond (eqb f 0) (table_of s (suc i)) (table_of s i)
+  filled : {r : Result Record Reason} {f : Option Reason} → Says states s i r f → table_by (table_of s i) r ≡ kept f (table_of s (suc i)) (table_of s i)
   unfolding transition_table
-  filled (initial k l) = same_or (eqb (cond (again s i) 5 0) 0) (table_other s i (ap (λ (c : ℕ). eqb c kind_t) k))
-  filled (accepting k l y z) = same_or (eqb (cond (again s i) 5 0) 0) (table_other s i (ap (λ (c : ℕ). eqb c kind_t) k))
+  filled (initial k l) = kept_same (repeated (again s i)) (table_other s i (ap (λ (c : ℕ). eqb c kind_t) k))
+  filled (accepting k l y z) = kept_same (repeated (again s i)) (table_other s i (ap (λ (c : ℕ). eqb c kind_t) k))
   filled (transition k l m n) =
       ap₂ (λ (t : Bool) (table : List (List ℕ)). cond t (table_of s i) table)
       (sym (again_transition s i k (omega arith) m (omega arith))) (table_more s i k (omega arith) m)
-      ∙ refused_or (again s i) (table_of s i) (table_of s (suc i))
-  filled (wrong k) = rw (eqb-suc-zero k)
+      ∙ kept_or (again s i) (table_of s i) (table_of s (suc i))
+  filled (wrong reason) = refl
 
-  pub turn_step : step_by (table_of s i) (head_in s i) (record_at states s i) ≡ cond (eqb (fault states s i) 0) (On (head_in s (suc i))) (Stop (fault states s i))
+  pub turn_step : step_by (table_of s i) (head_in s i) (record_at states s i) ≡ led (fault states s i) (head_in s (suc i))
   turn_step = stepped (says states s i)
 
-  pub turn_table : table_by (table_of s i) (record_at states s i) ≡ cond (eqb (fault states s i) 0) (table_of s (suc i)) (table_of s i)
+  pub turn_table : table_by (table_of s i) (record_at states s i) ≡ kept (fault states s i) (table_of s (suc i)) (table_of s i)
   turn_table = filled (says states s i)

@@ -9,8 +9,10 @@ use contract.Lifetimes.{Lfts}
 use Rattle.bits.proofs.Refuses.{Refuses, lent}
 use Rattle.automata.specs.declared.Head.{Head}
 use Rattle.automata.specs.Loaded.{cell}
+use Rattle.std.specs.Prelude.{Ok, Err}
+use Rattle.adding.specs.declared.reason.Reason.TheVariants.{NoInitialState}
+use Rattle.records.specs.declared.Fault.{Fault}
 use Rattle.records.specs.declared.Refusal.{Refusal}
-use Rattle.records.specs.declared.Checked.TheVariants.{Good, Refused}
 use Rattle.records.specs.Faults.{refusal}
 use Rattle.records.specs.Narrow.{narrow_cell, narrow_row, narrow}
 use Rattle.records.specs.BadRecord.{file_of, in_file, bad_file, bad_start}
@@ -21,16 +23,17 @@ use Rattle.records.proofs.narrowed.Reads as narrowed
 -- ---- `refusal_of`
 
 -- the rule's refusal told as the model's
-pub other_file : (number place : ℕ) → Refuses RefusalOf.Post (1, (Refused number place, _)) (refusal number 0 place)
-other_file number place x p = omega (arith, ap (λ (r : Refusal). r.which) p)
+pub other_file : (fault : Fault) → Refuses RefusalOf.Post (1, (Err fault, _)) (Err (refusal fault.reason 0 fault.place))
+other_file fault x p = let e : refusal fault.reason 0 fault.place ≡ refusal fault.reason 1 fault.place = cc in omega (arith, ap (λ (r : Refusal). r.which) e)
 
 -- the place of the next record
-pub next_record : (which number place : ℕ) → Refuses RefusalOf.Post (which, (Refused number place, _)) (refusal number which (4 + place))
-next_record which number place x p = omega (arith, ap (λ (r : Refusal). r.place) p)
+pub next_record : (which : ℕ) (fault : Fault) → Refuses RefusalOf.Post (which, (Err fault, _)) (Err (refusal fault.reason which (4 + fault.place)))
+next_record which fault x p =
+    let e : refusal fault.reason which (4 + fault.place) ≡ refusal fault.reason which fault.place = cc in omega (arith, ap (λ (r : Refusal). r.place) e)
 
--- a good file with a number
-pub good_refused : (which : ℕ) (head : Head) → Refuses RefusalOf.Post (which, (Good head, _)) (refusal 6 0 0)
-good_refused which head x p = omega (arith, ap (λ (r : Refusal). r.number) p)
+-- a good file with a refusal
+pub good_refused : (which : ℕ) (head : Head) → Refuses RefusalOf.Post (which, (Ok head, _)) (Err (refusal NoInitialState 0 0))
+good_refused which head x p = cc
 
 -- ---- `narrowed`, at the row of letter x
 

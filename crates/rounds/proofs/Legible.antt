@@ -6,6 +6,7 @@ use mathlib.Core.List.{List}
 use Prim.Native.Nat.{ℕ, ◌≤◌, ◌<◌}
 use native.Mathlib.Omega.{arith}
 use lib.ListN.{length, get_or, take, length-map}
+use Rattle.std.specs.Prelude.{Ok, Err}
 use Rattle.acceptance.specs.Lasso.{Aut}
 use Rattle.growth.specs.Grow.{ended, entries}
 use Rattle.growth.proofs.Steps.{steps_mem}
@@ -17,17 +18,18 @@ use Rattle.walk.specs.Walk.{rejected, search_round, pairs_of, accepts}
 use Rattle.walk.proofs.Runs.{Searched, one_fails, searched}
 use Rattle.walk.proofs.Cut.{periods}
 use Rattle.spelling.specs.Written.{Backward}
-use Rattle.rounds.specs.declared.Rounds.TheVariants.{Through, Lacking, Found}
+use Rattle.rounds.specs.declared.Tally.{Tally}
+use Rattle.rounds.specs.declared.Stop.TheVariants.{Lacking, Found}
 use Rattle.rounds.specs.Finished.{Legible}
 
 -- ---- where none was found
 
-module _ {room : ℕ} {u links : List ℕ} {p t : ℕ} where
-  pub through_legible : Legible room u links (Through p t)
-  through_legible = record { lasso = λ q y i j n e. let z : ◌≡◌ {A = ℕ} 0 1 = cc in absurd (omega arith) }
+module _ {room : ℕ} {u links : List ℕ} {c : Tally} where
+  pub through_legible : Legible room u links (Ok c)
+  through_legible = record { lasso = λ d l e. let z : ◌≡◌ {A = ℕ} 0 1 = cc in absurd (omega arith) }
 
-  pub lacking_legible : Legible room u links (Lacking p t)
-  lacking_legible = record { lasso = λ q y i j n e. let z : ◌≡◌ {A = ℕ} 0 1 = cc in absurd (omega arith) }
+  pub lacking_legible : Legible room u links (Err (Lacking c))
+  lacking_legible = record { lasso = λ d l e. let z : ◌≡◌ {A = ℕ} 0 1 = cc in absurd (omega arith) }
 
 -- ---- where one was
 
@@ -54,15 +56,13 @@ module _ (A B : Aut) (room s rows : ℕ) (short : room ≤ 65535) {v : List Peri
             (period_parents A B s rows room i (rw is (omega arith)));
       }
 
-  pub found_legible : (u : List ℕ) (t : ℕ) {links : List ℕ} {p k i j : ℕ} → search_round u (s, rows) v t ≡ rejected k i j → take (length v) links ≡ links_of v
-      → Legible room u links (Found p k i j (length v))
+  pub found_legible : (u : List ℕ) (t : ℕ) {links : List ℕ} {c : Tally} {k i j : ℕ} → search_round u (s, rows) v t ≡ rejected k i j → take (length v) links ≡ links_of v
+      → Legible room u links (Err (Found c (record { stem = i; period = j; size = length v })))
   found_legible u t {links} {i = i} {j = j} h kept = record {
-    lasso = λ q y x z n same.
-        let (l, m) = pair_low u (s, rows) v t h in
-        let same-i : i ≡ x = cc in
-        let same-j : j ≡ z = cc in
-        let count : length v ≡ n = cc in
+    lasso = λ d l same.
+        let (m, n) = pair_low u (s, rows) v t h in
+        let of : record { stem = i; period = j; size = length v } ≡ l = cc in
         let low : length v ≤ room = rw e at ((periods A B s rows).within room) in
-        let back : Backward true (take n links) = rw (← count, kept) links_back in
-        (rw same-i at l, omega arith, omega arith, back);
+        let back : Backward true (take (length v) links) = rw kept links_back in
+        rw (← of) (m, n, low, back);
   }

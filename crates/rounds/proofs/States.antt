@@ -1,5 +1,5 @@
 -- Which rounds there are: by the states of A, and by the entries of W. Assumes nothing.
-use mathlib.Core.Path.{◌≡◌, sym, ap, ◌∙◌}
+use mathlib.Core.Path.{◌≡◌, ap, ◌∙◌}
 use mathlib.Core.Bool.{Bool, true, false, ◌&&◌, ◌||◌, and-false, or-false}
 use mathlib.Core.List.{List, [], ◌∷◌}
 use Prim.Native.Nat.{ℕ, zero, suc, ◌≤◌}
@@ -12,7 +12,8 @@ use Rattle.bits.specs.Fields.{stem_state, stem_target}
 use Rattle.bits.proofs.Quantifiers.{any_none}
 use Rattle.acceptance.specs.Lasso.{Aut}
 use Rattle.growth.specs.Steps.{gather, only}
-use Rattle.automata.specs.Loaded.{aut_of}
+use Rattle.automata.specs.Loaded.{cell, aut_of, aut}
+use Rattle.automata.specs.declared.Automaton.{Automaton}
 use Rattle.automata.specs.declared.Head.{Head}
 use Rattle.walk.specs.Walk.{opening, round_at, rounds_at}
 use Rattle.growth.proofs.Gathered.{gather_nothing}
@@ -35,14 +36,14 @@ pub no_rounds : (A : Aut) (w : List ℕ) (s : ℕ) → opening A s ≡ false →
 unfolding rounds_at round_for round_at
 no_rounds A w s h = gather_nothing (round_for A w s) 0 (length w) (λ k. rw h)
 
-module _ (rows : ℕ → ℕ → ℕ) (head : Head) (s e : ℕ) (accepting : bit head.accepting s ≡ true) {q : ℕ} (state : q ≡ stem_state e) where
-  pub no_round : (q ≡ s → ⊥) → round_at (aut_of rows head) s e ≡ []
+module _ (m : Automaton (List (List ℕ))) (s e : ℕ) (accepting : bit m.head.accepting s ≡ true) where
+  pub no_round : (stem_state e ≡ s → ⊥) → round_at (aut m) s e ≡ []
   unfolding round_at
-  no_round other = rw (opening_is rows head s, accepting, ne_eqb (stem_state e) s (λ same. other (state ∙ same)))
+  no_round other = rw (opening_is (cell m.table) m.head s, accepting, ne_eqb (stem_state e) s other)
 
-  pub one_round : {x : ℕ} → q ≡ s → x ≡ stem_target e → round_at (aut_of rows head) s e ≡ (s, x) ∷ []
+  pub one_round : stem_state e ≡ s → round_at (aut m) s e ≡ (s, stem_target e) ∷ []
   unfolding round_at
-  one_round here target = rw (opening_is rows head s, accepting, eq-eqb (stem_state e) s (sym state ∙ here), target)
+  one_round here = rw (opening_is (cell m.table) m.head s, accepting, eq-eqb (stem_state e) s here)
 
 -- ---- how many
 

@@ -3,18 +3,20 @@ use mathlib.Core.Path.{◌≡◌, refl, sym, ap, ◌∙◌}
 use mathlib.Core.List.{List}
 use Prim.Native.Nat.{ℕ}
 use native.Mathlib.Omega.{arith}
+use Rattle.std.specs.Prelude.{Ok, Err}
 use Rattle.acceptance.specs.Lasso.{Aut, Word}
-use Rattle.rounds.specs.declared.Rounds.TheVariants.{Through, Found}
+use Rattle.rounds.specs.declared.Tally.{Tally}
+use Rattle.rounds.specs.declared.Stop.TheVariants.{Found}
 use Rattle.walk.specs.Walk.{included, shown, Finish, run}
 use Rattle.rounds.specs.Finished.{Finished}
 
-module _ {A B : Aut} {u links : List ℕ} {room : ℕ} {cs : List (ℕ × ℕ)} {p₀ t₀ : ℕ} where
+module _ {A B : Aut} {u links : List ℕ} {room : ℕ} {cs : List (ℕ × ℕ)} {p₀ t₀ : ℕ} {c : Tally} where
   -- that no lasso was rejected, where one was
-  pub rejected_passed_over : {p t : ℕ} {x y : Word} → (run A B u room cs p₀ t₀).verdict ≡ shown x y → Finished A B u room cs p₀ t₀ (Through p t) links → ⊥
+  pub rejected_passed_over : {x y : Word} → (run A B u room cs p₀ t₀).verdict ≡ shown x y → Finished A B u room cs p₀ t₀ (Ok c) links → ⊥
   rejected_passed_over {x = x} {y = y} e h =
       let same : included ≡ shown x y = sym (ap (λ (f : Finish). f.verdict) h.finish) ∙ e in
       let z : ◌≡◌ {A = ℕ} 0 1 = cc in absurd (omega arith)
 
   -- a period beyond the table
-  pub period_beyond : {p t i n : ℕ} → Finished A B u room cs p₀ t₀ (Found p t i n n) links → ⊥
-  period_beyond h = let (_, low, _, _) = h.legible.lasso _ _ _ _ _ refl in omega (arith, low)
+  pub period_beyond : {i n : ℕ} → Finished A B u room cs p₀ t₀ (Err (Found c (record { stem = i; period = n; size = n }))) links → ⊥
+  period_beyond h = let (_, low, _, _) = h.legible.lasso _ _ refl in omega (arith, low)

@@ -1,14 +1,14 @@
 -- What a round is given, and what its tests come to. Assumes nothing.
-use Rattle.std.specs.Prelude.{List, ℕ, ◌+◌, ◌*◌, ◌^◌, max, ◌≤◌, length}
-use Rattle.lassos.specs.declared.Found.{Found as Tested}
-use Rattle.lassos.specs.declared.Found.TheVariants.{Passed, Rejected}
-use Rattle.rounds.specs.declared.Rounds.{Rounds}
-use Rattle.rounds.specs.declared.Rounds.TheVariants.{Through, Found}
+use Rattle.std.specs.Prelude.{List, ℕ, ◌+◌, ◌*◌, ◌^◌, max, ◌≤◌, Result, Ok, Err, length}
+use Rattle.lassos.specs.declared.Rejected.{Rejected}
+use Rattle.rounds.specs.declared.Tally.{Tally}
+use Rattle.rounds.specs.declared.Stop.{Stop}
+use Rattle.rounds.specs.declared.Stop.TheVariants.{Found}
 
 -- what the tests of a table of n entries come to
-abbrev pub answered : ℕ → ℕ → Tested → Rounds
-answered n p (Passed t) = Through (max p n) t
-answered n p (Rejected t i j) = Found (max p n) t i j n
+abbrev pub answered : ℕ → ℕ → Result ℕ Rejected → Result Tally Stop
+answered n p (Ok t) = Ok (record { p = max p n; t = t })
+answered n p (Err r) = Err (Found (record { p = max p n; t = r.tests }) (record { stem = r.stem; period = r.period; size = n }))
 
 -- what a round is given: room, and few tests so far
 pub record Ready (room tests : ℕ) (u links contexts scratch : List ℕ) : Type 0 where

@@ -1,200 +1,152 @@
 //! The rounds: for each accepting state s of the model, and each entry of W at s, a period table built afresh and the lassos tested. The counts so
-//! far go with them: p, the most entries that a period table had, and t, the tests made.
+//! far go with them.
 #![tactic(auto)]
 
-ghost use Rattle.std.specs.Prelude.{◌≡◌, true, ◌*◌, ◌^◌, max, ◌<◌, ◌≤◌, length};
+ghost use Rattle.std.specs.Prelude.{◌≡◌, true, ◌*◌, ◌^◌, ◌<◌, ◌≤◌, Result, length};
 ghost use Rattle.bits.specs.Bits.{bit};
-ghost use Rattle.automata.specs.Loaded.{cell, aut_of};
+ghost use Rattle.automata.specs.Loaded.{aut};
 ghost use Rattle.walk.specs.Walk.{round_at, rounds_at, rounds};
 ghost use Rattle.rounds.specs.Finished.{Finished};
 ghost use Rattle.rounds.specs.Round.{answered, Ready};
 
-use automata::Head;
-use bits::{entries, members};
-use growth::Growth;
-use lassos::Found;
+use automata::{Model, Rule};
+use bits::entries;
+use bits::members::Set;
+use lassos::Rejected;
 
-// No lasso was rejected; a period table lacks room; or a lasso was rejected, of the stem and the period at these indices, in a table of that size.
-#[derive(Clone, Copy)]
-pub enum Rounds {
-    Through {
-        p: usize,
-        t: usize,
-    },
-    Lacking {
-        p: usize,
-        t: usize,
-    },
-    Found {
-        p: usize,
-        t: usize,
-        stem: usize,
-        period: usize,
-        size: usize,
-    },
+// The counts so far: the most entries that a period table had, and the tests made.
+#[derive(Clone, Copy, PartialEq, Eq, Debug)]
+pub struct Tally {
+    pub p: usize,
+    pub t: usize,
 }
 
-fn larger(a: usize, b: usize) -> usize
-    ensures { result ≡ max a b }
-{
-    if a < b {
-        return b;
-    }
-    a
+// A lasso by the indices of its stem and its period, in a period table of that size.
+#[derive(Clone, Copy, PartialEq, Eq, Debug)]
+pub struct Lasso {
+    pub stem: usize,
+    pub period: usize,
+    pub size: usize,
+}
+
+// Why the rounds stop before their end: a period table lacks room, or a lasso was rejected.
+#[derive(Clone, Copy, PartialEq, Eq, Debug)]
+pub enum Stop {
+    Lacking(Tally),
+    Found(Tally, Lasso),
+}
+
+// What all rounds share: the stems, the room for periods, and the two automata.
+#[derive(Clone, Copy)]
+struct Setting<'a> {
+    stems: &'a [u32],
+    room: usize,
+    model: &'a Model,
+    rule: &'a Rule,
 }
 
 // What the tests of a table of this size come to; before it, the largest table had `before` entries.
-fn counted(found: Found, before: usize, size: usize) -> Rounds
-    ensures { result ≡ answered size before found }
+fn counted(tests: Result<usize, Rejected>, before: usize, size: usize) -> Result<Tally, Stop>
+    ensures { result ≡ answered size before tests }
 {
-    let p = larger(before, size);
-    match found {
-        Found::Passed(t) => Rounds::Through { p, t },
-        Found::Rejected {
-            tests: t,
-            stem,
-            period,
-        } => Rounds::Found {
-            p,
-            t,
-            stem,
-            period,
-            size,
-        },
+    let p = before.max(size);
+    match tests {
+        Ok(t) => Ok(Tally { p, t }),
+        Err(r) => {
+            let lasso = Lasso {
+                stem: r.stem,
+                period: r.period,
+                size,
+            };
+            Err(Stop::Found(Tally { p, t: r.tests }, lasso))
+        }
     }
 }
 
 // The round of an entry of W, if it is at s: the period table afresh, then its lassos.
 fn round(
-    stems: &[u32],
+    on: Setting,
     entry: u32,
     links: &mut [u32],
     contexts: &mut [u64],
     scratch: &mut [u16],
-    room: usize,
     s: u8,
-    model: &[[u16; 16]; 16],
-    model_head: Head,
-    rule: &[[u8; 8]; 16],
-    rule_head: Head,
-    p: usize,
-    t: usize,
-) -> Rounds
-    requires ready { Ready room t stems.now links.old contexts.old scratch.old }
-    requires s_bound { (s < 16) × (bit model_head.accepting s ≡ true) }
-    ensures { Finished (aut_of (cell model.now) model_head) (aut_of (cell rule.now) rule_head)
-        stems.now room (round_at (aut_of (cell model.now) model_head) s entry) p t result links.new }
+    tally: Tally,
+) -> Result<Tally, Stop>
+    requires ready { Ready on.room tally.t on.stems.now links.old contexts.old scratch.old }
+    requires s_bound { (s < 16) × (bit on.model.now.head.accepting s ≡ true) }
+    ensures { let A = aut on.entry.model.now in
+        Finished A (aut on.entry.rule.now) on.entry.stems.now on.entry.room (round_at A s entry) tally.p tally.t result links.new }
 {
     if entries::stem_state(entry) != s {
-        return Rounds::Through { p, t };
+        return Ok(tally);
     }
     let target = entries::stem_target(entry);
     let grown = periods::grow(
-        links, contexts, scratch, room, s, target, model, model_head, rule, rule_head,
+        links, contexts, scratch, on.room, s, target, on.model, on.rule,
     );
-    let Growth::Ended(n) = grown else {
-        return Rounds::Lacking {
-            p: larger(p, room),
-            t,
-        };
+    let Ok(n) = grown else {
+        return Err(Stop::Lacking(Tally {
+            p: tally.p.max(on.room),
+            t: tally.t,
+        }));
     };
-    let found = lassos::first_rejected(
-        stems,
-        &links[0..n],
-        &contexts[0..2 * n],
+    let tests = lassos::first_rejected(
+        on.stems,
+        &links[..n],
+        &contexts[..2 * n],
         scratch,
         s,
         target,
-        t,
+        tally.t,
     );
-    counted(found, p, n)
+    counted(tests, tally.p, n)
 }
 
 // The rounds of a state: if it is accepting, those of the entries of W, in table order.
 fn at_state(
-    stems: &[u32],
+    on: Setting,
     largest: &[u32],
     links: &mut [u32],
     contexts: &mut [u64],
     scratch: &mut [u16],
-    room: usize,
     s: u8,
-    model: &[[u16; 16]; 16],
-    model_head: Head,
-    rule: &[[u8; 8]; 16],
-    rule_head: Head,
-    p_before: usize,
-    t_before: usize,
-) -> Rounds
-    requires ready { Ready room t_before stems.now links.old contexts.old scratch.old }
-    requires s_bound { (s < 16) × (length largest.now ≤ 4096) × (t_before ≤ 2 ^ 48) }
-    ensures { Finished (aut_of (cell model.now) model_head) (aut_of (cell rule.now) rule_head)
-        stems.now room (rounds_at (aut_of (cell model.now) model_head) largest.now s) p_before t_before result links.new }
+    before: Tally,
+) -> Result<Tally, Stop>
+    requires ready { Ready on.room before.t on.stems.now links.old contexts.old scratch.old }
+    requires s_bound { (s < 16) × (length largest.now ≤ 4096) × (before.t ≤ 2 ^ 48) }
+    ensures { let A = aut on.entry.model.now in
+        Finished A (aut on.entry.rule.now) on.entry.stems.now on.entry.room (rounds_at A largest.now s) before.p before.t result links.new }
 {
-    let mut p = p_before;
-    let mut t = t_before;
-    if !members::has16(model_head.accepting, s as usize) {
-        return Rounds::Through { p, t };
+    if !on.model.head.accepting.has(usize::from(s)) {
+        return Ok(before);
     }
-    let mut k = 0;
-    while k < largest.len() {
-        let r = round(
-            stems, largest[k], links, contexts, scratch, room, s, model, model_head, rule,
-            rule_head, p, t,
-        );
-        let Rounds::Through {
-            p: p_next,
-            t: t_next,
-        } = r
-        else {
-            return r;
-        };
-        p = p_next;
-        t = t_next;
-        k += 1;
+    let mut tally = before;
+    for entry in largest {
+        tally = round(on, *entry, links, contexts, scratch, s, tally)?;
     }
-    Rounds::Through { p, t }
+    Ok(tally)
 }
 
 // The rounds of each state, rising. The scratch serves within a round, first the growth of its table and then its tests: what it holds at the end of
 // either does not matter.
 fn each_state(
-    stems: &[u32],
+    on: Setting,
     largest: &[u32],
     links: &mut [u32],
     contexts: &mut [u64],
     scratch: &mut [u16],
-    room: usize,
-    model: &[[u16; 16]; 16],
-    model_head: Head,
-    rule: &[[u8; 8]; 16],
-    rule_head: Head,
-) -> Rounds
-    requires ready { Ready room 0 stems.now links.old contexts.old scratch.old }
+) -> Result<Tally, Stop>
+    requires ready { Ready on.room 0 on.stems.now links.old contexts.old scratch.old }
     requires largest_len_bound { length largest.now ≤ 4096 }
-    ensures { Finished (aut_of (cell model.now) model_head) (aut_of (cell rule.now) rule_head)
-        stems.now room (rounds (aut_of (cell model.now) model_head) (aut_of (cell rule.now) rule_head) largest.now) 0 0 result links.new }
+    ensures { let A = aut on.entry.model.now in let B = aut on.entry.rule.now in
+        Finished A B on.entry.stems.now on.entry.room (rounds A B largest.now) 0 0 result links.new }
 {
-    let mut p = 0;
-    let mut t = 0;
-    let mut s: u8 = 0;
-    while s < 16 {
-        let r = at_state(
-            stems, largest, links, contexts, scratch, room, s, model, model_head, rule, rule_head,
-            p, t,
-        );
-        let Rounds::Through {
-            p: p_next,
-            t: t_next,
-        } = r
-        else {
-            return r;
-        };
-        p = p_next;
-        t = t_next;
-        s += 1;
+    let mut tally = Tally { p: 0, t: 0 };
+    for s in 0..16u8 {
+        tally = at_state(on, largest, links, contexts, scratch, s, tally)?;
     }
-    Rounds::Through { p, t }
+    Ok(tally)
 }
 
 // A scratch for every room. The `ensures` gives the length, which lending it as a slice needs: of a long array that is a local, the elements are counted one
@@ -213,24 +165,23 @@ pub fn all(
     links: &mut [u32],
     contexts: &mut [u64],
     room: usize,
-    model: &[[u16; 16]; 16],
-    model_head: Head,
-    rule: &[[u8; 8]; 16],
-    rule_head: Head,
-) -> Rounds
+    model: &Model,
+    rule: &Rule,
+) -> Result<Tally, Stop>
     requires stems_len_bound { (length stems.now ≤ 4096) × (length largest.now ≤ 4096) }
     requires room_bound { (room ≤ 65535) × (room ≤ length links.old) × (2 * room ≤ length contexts.old) }
-    ensures { Finished (aut_of (cell model.now) model_head) (aut_of (cell rule.now) rule_head)
-        stems.now room (rounds (aut_of (cell model.now) model_head) (aut_of (cell rule.now) rule_head) largest.now) 0 0 result links.new }
+    ensures { Finished (aut model.now) (aut rule.now) stems.now room (rounds (aut model.now) (aut rule.now) largest.now) 0 0 result links.new }
 {
+    let on = Setting {
+        stems,
+        room,
+        model,
+        rule,
+    };
     if room <= 2048 {
         let mut small = [0u16; 8224];
-        return each_state(
-            stems, largest, links, contexts, &mut small, room, model, model_head, rule, rule_head,
-        );
+        return each_state(on, largest, links, contexts, &mut small);
     }
     let mut large = large_scratch();
-    each_state(
-        stems, largest, links, contexts, &mut large, room, model, model_head, rule, rule_head,
-    )
+    each_state(on, largest, links, contexts, &mut large)
 }

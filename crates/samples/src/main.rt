@@ -5,38 +5,15 @@
 
 ghost use Rattle.std.specs.Prelude.{◌≡◌, length};
 
+use inclusion::Letters;
+use search::Lent;
 use std::io;
 
-fn text(rt: &impl Print, words: &str) -> io::Result<()> {
-    print!(rt; "{words}")
-}
-
-// A space, and a number in decimal.
-fn number(rt: &impl Print, n: u64) -> io::Result<()> {
-    print!(rt; " {n}")
-}
-
-fn letter(rt: &impl Print, x: u8) -> io::Result<()> {
-    number(rt, u64::from(x))
-}
-
-// The first n letters of an output.
-fn word(rt: &impl Print, name: &str, output: &[u8], n: usize) -> io::Result<()> {
-    if n > output.len() {
-        return Ok(());
-    }
-    text(rt, name)?;
-    for x in &output[..n] {
-        letter(rt, *x)?;
-    }
-    text(rt, "\n")
-}
-
 fn numbers(rt: &impl Print, row: [u64; 9]) -> io::Result<()> {
-    for n in &row {
-        number(rt, *n)?;
+    for n in row {
+        print!(rt; " {n}")?;
     }
-    text(rt, "\n")
+    println!(rt)
 }
 
 // The words that an answer shows are the first letters of the outputs; none are where the period's length is 0.
@@ -44,28 +21,23 @@ fn shown(rt: &impl Print, row: [u64; 9], stem: &[u8], period: &[u8]) -> io::Resu
     if row[8] == 0 {
         return Ok(());
     }
-    word(rt, " stem:", stem, row[7] as usize)?;
-    word(rt, " period:", period, row[8] as usize)
+    let stem = Letters {
+        output: stem,
+        count: row[7] as usize,
+    };
+    let period = Letters {
+        output: period,
+        count: row[8] as usize,
+    };
+    println!(rt; " stem:{stem}\n period:{period}")
 }
 
-// The links, the contexts and the period output of as many periods as any sample asks for. The `ensures` give the lengths, which lending an array as a slice
-// needs: of a long array that is a local, the elements are counted one by one when it is checked.
-fn link_table() -> [u32; 65536]
-    ensures { 65536 ≡ length result }
+// A long array of zeroes. The `ensures` gives its length, which lending it as a slice needs: of a long array that is a local, the elements are counted one by
+// one when it is checked.
+fn zeroes<T: Copy + Default, const N: usize>() -> [T; N]
+    ensures { N ≡ length result }
 {
-    [0; 65536]
-}
-
-fn context_table() -> [u64; 131072]
-    ensures { 131072 ≡ length result }
-{
-    [0; 131072]
-}
-
-fn period_output() -> [u8; 65536]
-    ensures { 65536 ≡ length result }
-{
-    [0; 65536]
+    [T::default(); N]
 }
 
 // The nine numbers of an answer, with tables that are long enough for every S and P here.
@@ -79,20 +51,17 @@ fn decided(
 ) -> [u64; 9] {
     let mut smallest = [0u32; 4097];
     let mut largest = [0u32; 4097];
-    let mut links = link_table();
-    let mut contexts = context_table();
-    inclusion::numbers(inclusion::decide(
-        model,
-        rule,
-        stem_room,
-        period_room,
-        &mut smallest,
-        &mut largest,
-        &mut links,
-        &mut contexts,
+    let mut links = zeroes::<u32, 65536>();
+    let mut contexts = zeroes::<u64, 131072>();
+    let mut lent = Lent {
+        smallest: &mut smallest,
+        largest: &mut largest,
+        links: &mut links,
+        contexts: &mut contexts,
         stem,
         period,
-    ))
+    };
+    inclusion::numbers(inclusion::decide(model, rule, stem_room, period_room, &mut lent))
 }
 
 // The name of a sample, and its room: numbers, which are cheaper to check than a text for each.
@@ -110,7 +79,7 @@ fn lent(
     period_room: usize,
     stem: &mut [u8],
 ) -> io::Result<()> {
-    let mut period = period_output();
+    let mut period = zeroes::<u8, 65536>();
     let row = decided(model, rule, stem_room, period_room, stem, &mut period);
     heading(rt, sample, stem_room, period_room)?;
     numbers(rt, row)?;

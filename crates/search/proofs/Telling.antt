@@ -3,8 +3,8 @@ use mathlib.Core.Path.{◌≡◌, refl, sym, ap, ap₂, ◌∙◌}
 use mathlib.Core.Logic.{inr}
 use mathlib.Core.Bool.{Bool, true, false}
 use mathlib.Core.List.{List}
-use Prim.Native.Nat.{ℕ, ◌-◌, ◌*◌, ◌≤◌, ◌<◌}
-use native.Mathlib.Nat.{sub-zero}
+use Rattle.std.specs.Prelude.{Result, Ok, Err}
+use Prim.Native.Nat.{ℕ, ◌*◌, ◌≤◌, ◌<◌}
 use native.Mathlib.Omega.{arith}
 use borrow.Author.Tests.{eqb-false}
 use lib.ListN.{length, take}
@@ -14,8 +14,7 @@ use Rattle.acceptance.specs.Contexts.{Small}
 use Rattle.growth.specs.Grow.{ended, full, entries}
 use Rattle.growth.specs.Numbered.{Bounded}
 use Rattle.growth.specs.Lent.{over}
-use Rattle.growth.specs.declared.Growth.{Growth}
-use Rattle.growth.specs.declared.Growth.TheVariants.{Ended, Full}
+use Rattle.growth.specs.declared.Full.{Full}
 use Rattle.growth.proofs.Offering.{ended_is, full_is, take_over, over_length}
 use Rattle.stems.specs.Stems.{stem_table}
 use Rattle.stems.specs.Held.{Held}
@@ -23,8 +22,10 @@ use Rattle.stems.proofs.Parents.{stem_parents}
 use Rattle.walk.specs.Words.{stem_word, period_word}
 use Rattle.walk.specs.Walk.{Finish, rounds, run, walk}
 use Rattle.spelling.specs.Written.{Backward, Written}
-use Rattle.rounds.specs.declared.Rounds.{Rounds}
-use Rattle.rounds.specs.declared.Rounds.TheVariants.{Found}
+use Rattle.rounds.specs.declared.Tally.{Tally}
+use Rattle.rounds.specs.declared.Lasso.{Lasso}
+use Rattle.rounds.specs.declared.Stop.{Stop}
+use Rattle.rounds.specs.declared.Stop.TheVariants.{Found}
 use Rattle.rounds.specs.Finished.{finish_of, Legible}
 use Rattle.search.specs.declared.Ending.{Ending}
 use Rattle.search.specs.declared.Ending.TheVariants.{Shown, StemsFull}
@@ -37,7 +38,7 @@ use Rattle.walk.proofs.Cut.{stems}
 
 pub parts_prepared : {A B : Aut} {S P : ℕ} {smallest largest links contexts stem period : List ℕ}
     → Prepared A B S P (record { smallest = smallest; largest = largest; links = links; contexts = contexts; stem = stem; period = period })
-    → Prepared A B S P (record { smallest = smallest; largest = largest; links = take (P - 0) links; contexts = take (2 * P - 0) contexts; stem = stem; period = period })
+    → Prepared A B S P (record { smallest = smallest; largest = largest; links = take P links; contexts = take (2 * P) contexts; stem = stem; period = period })
 parts_prepared {P = P} {links = links} {contexts = contexts} h = record {
   some_stems = h.some_stems;
   few_stems = h.few_stems;
@@ -45,8 +46,8 @@ parts_prepared {P = P} {links = links} {contexts = contexts} h = record {
   few_periods = h.few_periods;
   smallest_fits = h.smallest_fits;
   largest_fits = h.largest_fits;
-  links_fit = let m = h.links_fit in omega (arith, length-take-le (P - 0) links (omega arith));
-  contexts_fit = let m = h.contexts_fit in omega (arith, length-take-le (2 * P - 0) contexts (omega arith));
+  links_fit = let m = h.links_fit in omega (arith, length-take-le P links (omega arith));
+  contexts_fit = let m = h.contexts_fit in omega (arith, length-take-le (2 * P) contexts (omega arith));
   stem_fits = h.stem_fits;
   period_fits = h.period_fits;
   bounded = h.bounded;
@@ -55,17 +56,17 @@ parts_prepared {P = P} {links = links} {contexts = contexts} h = record {
 
 -- ---- a stem table that was grown
 
-module _ (A B : Aut) (S : ℕ) (largest : Bool) {g : Growth} {old new : List ℕ} (h : Held (stem_table A B largest S) old new g) where
+module _ (A B : Aut) (S : ℕ) (largest : Bool) {g : Result ℕ Full} {old new : List ℕ} (h : Held (stem_table A B largest S) old new g) where
   record HoldsStems (n : ℕ) : Type 0 where
     pub is_ended : stem_table A B largest S ≡ ended (entries (stem_table A B largest S))
     pub count : length (entries (stem_table A B largest S)) ≡ n
-    pub part : take (n - 0) new ≡ entries (stem_table A B largest S)
+    pub part : take n new ≡ entries (stem_table A B largest S)
     pub within : n ≤ S
 
-  holds_stems : {n : ℕ} → g ≡ Ended n → HoldsStems n
+  holds_stems : {n : ℕ} → g ≡ Ok n → HoldsStems n
   holds_stems {n} e =
       let (is, count) = ended_is (stem_table A B largest S) (sym e ∙ h.answer) in
-      let all : n - 0 ≡ length (entries (stem_table A B largest S)) = omega arith in
+      let all : n ≡ length (entries (stem_table A B largest S)) = omega arith in
       record {
         is_ended = is;
         count = count;
@@ -73,12 +74,12 @@ module _ (A B : Aut) (S : ℕ) (largest : Bool) {g : Growth} {old new : List ℕ
         within = omega (arith, (stems A B largest).within S);
       }
 
-  pub stems_fit : {n : ℕ} → g ≡ Ended n → S ≤ length old → n ≤ length new
+  pub stems_fit : {n : ℕ} → g ≡ Ok n → S ≤ length old → n ≤ length new
   stems_fit e l =
       let a = holds_stems e in
       omega (arith, a.count, a.within, ap length h.holds ∙ over_length (entries (stem_table A B largest S)) old (omega (arith, (stems A B largest).within S)))
 
-  full_stems : g ≡ Full → (stem_table A B largest S ≡ full (entries (stem_table A B largest S))) × (length (entries (stem_table A B largest S)) ≡ S)
+  full_stems : {err : Full} → g ≡ Err err → (stem_table A B largest S ≡ full (entries (stem_table A B largest S))) × (length (entries (stem_table A B largest S)) ≡ S)
   full_stems e = let is = full_is (stem_table A B largest S) (sym e ∙ h.answer) in (is, (stems A B largest).filled S _ is)
 
 -- parents come before their children
@@ -101,7 +102,7 @@ pub record Grown (P : ℕ) (u w links contexts stem period : List ℕ) : Type 0 
   pub period_fits : P ≤ length period
 
 -- the lasso that they may find can be shown
-pub showable : {P : ℕ} {u w links₀ links contexts stem period : List ℕ} {r : Rounds} → Grown P u w links₀ contexts stem period → length links ≡ length links₀
+pub showable : {P : ℕ} {u w links₀ links contexts stem period : List ℕ} {r : Result Tally Stop} → Grown P u w links₀ contexts stem period → length links ≡ length links₀
     → Legible P u links r → Showable u links stem period r
 showable {P} h same l = record {
   room = P;
@@ -115,15 +116,15 @@ showable {P} h same l = record {
 module _ (A B : Aut) (S P : ℕ) where
   -- ---- both are there
 
-  module _ {old : Buffers} (ready : Prepared A B S P old) {smallest largest : List ℕ} {g k : Growth} (hu : Held (stem_table A B false S) old.smallest smallest g)
-      (hw : Held (stem_table A B true S) old.largest largest k) {u w : ℕ} (eu : g ≡ Ended u) (ew : k ≡ Ended w) where
+  module _ {old : Buffers} (ready : Prepared A B S P old) {smallest largest : List ℕ} {g k : Result ℕ Full} (hu : Held (stem_table A B false S) old.smallest smallest g)
+      (hw : Held (stem_table A B true S) old.largest largest k) {u w : ℕ} (eu : g ≡ Ok u) (ew : k ≡ Ok w) where
     U : List ℕ
     U = entries (stem_table A B false S)
 
     W : List ℕ
     W = entries (stem_table A B true S)
 
-    pub grown : Grown P (take (u - 0) smallest) (take (w - 0) largest) old.links old.contexts old.stem old.period
+    pub grown : Grown P (take u smallest) (take w largest) old.links old.contexts old.stem old.period
     unfolding U W
     grown =
         let a = holds_stems A B S false hu eu in
@@ -139,8 +140,8 @@ module _ (A B : Aut) (S P : ℕ) where
           period_fits = ready.period_fits;
         })
 
-    pub told_rounds : {f : Finish} {links contexts stem period : List ℕ} {e : Ending} → run A B (take (u - 0) smallest) P (rounds A B (take (w - 0) largest)) 0 0 ≡ f
-        → Shows (length (take (u - 0) smallest)) (length (take (w - 0) largest)) f old.stem stem old.period period e
+    pub told_rounds : {f : Finish} {links contexts stem period : List ℕ} {e : Ending} → run A B (take u smallest) P (rounds A B (take w largest)) 0 0 ≡ f
+        → Shows (length (take u smallest)) (length (take w largest)) f old.stem stem old.period period e
         → Told (walk A B S P) old (record { smallest = smallest; largest = largest; links = links; contexts = contexts; stem = stem; period = period }) e
     unfolding U W
     told_rounds {f} {stem = stem} {period = period} {e = e} is s =
@@ -153,8 +154,8 @@ module _ (A B : Aut) (S P : ℕ) where
 
   -- ---- one of them lacks room
 
-  module _ {old : Buffers} {smallest : List ℕ} {g : Growth} (hu : Held (stem_table A B false S) old.smallest smallest g) where
-    pub told_u : g ≡ Full → Told (walk A B S P) old (record { smallest = smallest; largest = old.largest; links = old.links; contexts = old.contexts; stem = old.stem; period = old.period })
+  module _ {old : Buffers} {smallest : List ℕ} {g : Result ℕ Full} (hu : Held (stem_table A B false S) old.smallest smallest g) where
+    pub told_u : {err : Full} → g ≡ Err err → Told (walk A B S P) old (record { smallest = smallest; largest = old.largest; links = old.links; contexts = old.contexts; stem = old.stem; period = old.period })
         (StemsFull 0 (record { u = S; w = 0; p = 0; t = 0 }))
     unfolding ending_by over stem_shown period_shown
     told_u e =
@@ -162,7 +163,7 @@ module _ (A B : Aut) (S P : ℕ) where
         rw (walk_is (u_full (entries (stem_table A B false S)) is))
         (record { answer = ap (λ (n : ℕ). StemsFull 0 (record { u = n; w = 0; p = 0; t = 0 })) (sym count); smallest_left = hu.holds; largest_left = refl; stem_left = refl; period_left = refl })
 
-    pub told_w : {u : ℕ} {largest : List ℕ} {k : Growth} → g ≡ Ended u → Held (stem_table A B true S) old.largest largest k → k ≡ Full
+    pub told_w : {err : Full} {u : ℕ} {largest : List ℕ} {k : Result ℕ Full} → g ≡ Ok u → Held (stem_table A B true S) old.largest largest k → k ≡ Err err
         → Told (walk A B S P) old (record { smallest = smallest; largest = largest; links = old.links; contexts = old.contexts; stem = old.stem; period = old.period })
         (StemsFull 1 (record { u = u; w = S; p = 0; t = 0 }))
     unfolding ending_by over stem_shown period_shown
@@ -180,17 +181,16 @@ module _ (A B : Aut) (S P : ℕ) where
 
 -- ---- both words of a lasso were written
 
-pub lasso_shown : (u links : List ℕ) (i j n m w p t : ℕ) {a b : ℕ} {stem₀ stem period₀ period : List ℕ} → Written (stem_word u i) a stem₀ stem → Written (period_word (take (n - 0) links) j) b period₀ period
-    → Shows m w (finish_of u links (Found p t i j n)) stem₀ stem period₀ period (Shown (record { u = m; w = w; p = p; t = t }) (record { stem = a; period = b }))
+pub lasso_shown : (u links : List ℕ) (m w : ℕ) (c : Tally) (l : Lasso) {a b : ℕ} {stem₀ stem period₀ period : List ℕ} → Written (stem_word u l.stem) a stem₀ stem → Written (period_word (take l.size links) l.period) b period₀ period
+    → Shows m w (finish_of u links (Err (Found c l))) stem₀ stem period₀ period (Shown (record { u = m; w = w; p = c.p; t = c.t }) (record { stem = a; period = b }))
 unfolding ending_by stem_shown period_shown
-lasso_shown u links i j n m w p t s v =
-    let q = rw (sub-zero n) at v in
-    record { answer = ap₂ (λ (a b : ℕ). Shown (record { u = m; w = w; p = p; t = t }) (record { stem = a; period = b })) s.letters q.letters; stem_left = s.bytes; period_left = q.bytes }
+lasso_shown u links m w c l s v =
+    record { answer = ap₂ (λ (a b : ℕ). Shown (record { u = m; w = w; p = c.p; t = c.t }) (record { stem = a; period = b })) s.letters v.letters; stem_left = s.bytes; period_left = v.bytes }
 
 -- the part that is lent for the period's word
-pub period_legible : {u links stem period : List ℕ} {p t i j n : ℕ} → Showable u links stem period (Found p t i j n)
-    → Backward true (take (n - 0) links) × ((j < length (take (n - 0) links)) × (length (take (n - 0) links) ≤ length period))
-period_legible {links = links} {n = n} h =
-    let (_, low, within, back) = h.legible.lasso _ _ _ _ _ refl in
-    let long : length (take n links) ≡ n = length-take-le n links (omega (arith, h.links_fit)) in
-    rw (sub-zero n) (back, (omega (arith, low), omega (arith, h.period_fits)))
+pub period_legible : {u links stem period : List ℕ} {c : Tally} {l : Lasso} → Showable u links stem period (Err (Found c l))
+    → Backward true (take l.size links) × ((l.period < length (take l.size links)) × (length (take l.size links) ≤ length period))
+period_legible {links = links} {c = c} {l} h =
+    let (_, low, within, back) = h.legible.lasso c l refl in
+    let long : length (take l.size links) ≡ l.size = length-take-le l.size links (omega (arith, h.links_fit)) in
+    (back, (omega (arith, low), omega (arith, h.period_fits)))

@@ -1,15 +1,37 @@
 -- What the walk is given, and what it then leaves. Assumes nothing.
-use Rattle.std.specs.Prelude.{◌≡◌, false, List, ℕ, ◌*◌, ◌≤◌, length}
+use Rattle.std.specs.Prelude.{◌≡◌, false, List, ℕ, ◌*◌, ◌≤◌, Result, length}
 use Rattle.acceptance.specs.Lasso.{Aut}
 use Rattle.acceptance.specs.Contexts.{Small}
 use Rattle.growth.specs.Numbered.{Bounded}
 use Rattle.growth.specs.Lent.{over}
 use Rattle.walk.specs.Walk.{Finish, Walked}
 use Rattle.spelling.specs.Written.{Backward}
-use Rattle.rounds.specs.declared.Rounds.{Rounds}
+use Rattle.rounds.specs.declared.Tally.{Tally}
+use Rattle.rounds.specs.declared.Stop.{Stop}
 use Rattle.rounds.specs.Finished.{Legible}
+use Rattle.search.specs.declared.Lent.{Lent}
 use Rattle.search.specs.declared.Ending.{Ending}
 use Rattle.search.specs.Ending.{ending_by, ending_of, stem_shown, period_shown, Buffers, left_by}
+
+-- what the lent buffers hold
+abbrev pub contents : Lent → Buffers
+contents l = record {
+  smallest = l.smallest.now;
+  largest = l.largest.now;
+  links = l.links.now;
+  contexts = l.contexts.now;
+  stem = l.stem.now;
+  period = l.period.now;
+}
+
+-- the same buffers are still lent
+pub record StillLent (old new : Lent) : Type 0 where
+  pub smallest : new.smallest.ghost_name ≡ old.smallest.ghost_name
+  pub largest : new.largest.ghost_name ≡ old.largest.ghost_name
+  pub links : new.links.ghost_name ≡ old.links.ghost_name
+  pub contexts : new.contexts.ghost_name ≡ old.contexts.ghost_name
+  pub stem : new.stem.ghost_name ≡ old.stem.ghost_name
+  pub period : new.period.ghost_name ≡ old.period.ghost_name
 
 -- S and P in range, lent tables and outputs that are long enough, and automata of few states and letters
 pub record Prepared (A B : Aut) (S P : ℕ) (lent : Buffers) : Type 0 where
@@ -42,7 +64,7 @@ pub record Concluded (r : Walked) (P : ℕ) (old new : Buffers) (e : Ending) : T
 -- ---- the words of a rejected lasso
 
 -- where one was found, its words can be read back, and fit
-pub record Showable (u links stem period : List ℕ) (r : Rounds) : Type 0 where
+pub record Showable (u links stem period : List ℕ) (r : Result Tally Stop) : Type 0 where
   pub room : ℕ
   pub legible : Legible room u links r
   pub stems_back : Backward false u

@@ -1,16 +1,28 @@
 //! The walk on loaded automata and lent tables.
 #![tactic(auto)]
 
-ghost use Rattle.std.specs.Prelude.{◌≡◌, length, replicate};
-ghost use Rattle.automata.specs.Loaded.{cell, aut_of};
+ghost use Rattle.std.specs.Prelude.{◌≡◌, length};
+ghost use Rattle.automata.specs.Loaded.{aut};
 ghost use Rattle.walk.specs.Walk.{walk};
 ghost use Rattle.rounds.specs.Finished.{finish_of};
 ghost use Rattle.search.specs.declared.Ending.TheVariants.{StemsFull};
-ghost use Rattle.search.specs.Contract.{Prepared, Concluded, Told, Showable, Shows};
+ghost use Rattle.search.specs.Contract.{contents, StillLent, Prepared, Concluded, Told, Showable, Shows};
 
-use automata::Head;
-use growth::Growth;
-use rounds::Rounds;
+use automata::{Model, Rule};
+use rounds::{Stop, Tally};
+use spelling::{PeriodLink, StemEntry};
+use std::fmt;
+
+// The six lent buffers.
+#[derive(Drop)]
+pub struct Lent<'a> {
+    pub smallest: &'a mut [u32],
+    pub largest: &'a mut [u32],
+    pub links: &'a mut [u32],
+    pub contexts: &'a mut [u64],
+    pub stem: &'a mut [u8],
+    pub period: &'a mut [u8],
+}
 
 // Document 01's counts: the entries of U and of W, the most entries that a period table had, the tests made.
 #[derive(Clone, Copy)]
@@ -19,6 +31,12 @@ pub struct Counts {
     pub w: usize,
     pub p: usize,
     pub t: usize,
+}
+
+impl fmt::Display for Counts {
+    fn fmt<W: fmt::Write>(&self, f: &mut fmt::Formatter<W>) -> fmt::Result {
+        write!(f, "U={} W={} P={} T={}", self.u, self.w, self.p, self.t)
+    }
 }
 
 // The letters of the stem and of the period that are shown.
@@ -37,37 +55,40 @@ pub enum Ending {
     PeriodsFull(Counts),
 }
 
+// The counts of a walk with these stem tables.
+fn counted(u: usize, w: usize, tally: Tally) -> Counts
+    ensures { result ≡ record { u = u; w = w; p = tally.p; t = tally.t } }
+{
+    let Tally { p, t } = tally;
+    Counts { u, w, p, t }
+}
+
 // Writes the words of a rejected lasso, if there is one, and says how the walk ends.
 fn show(
-    rounds: Rounds,
+    found: Result<Tally, Stop>,
     stems: &[u32],
     w: usize,
     links: &[u32],
     stem: &mut [u8],
     period: &mut [u8],
 ) -> Ending
-    requires { Showable stems.now links.now stem.old period.old rounds }
-    ensures { Shows (length stems.now) w (finish_of stems.now links.now rounds)
+    requires { Showable stems.now links.now stem.old period.old found }
+    ensures { Shows (length stems.now) w (finish_of stems.now links.now found)
         stem.old stem.new period.old period.new result }
 {
     let u = stems.len();
-    match rounds {
-        Rounds::Through { p, t } => Ending::Included(Counts { u, w, p, t }),
-        Rounds::Lacking { p, t } => Ending::PeriodsFull(Counts { u, w, p, t }),
-        Rounds::Found {
-            p,
-            t,
-            stem: i,
-            period: j,
-            size,
-        } => {
-            let stem_letters = spelling::write(stems, false, i, stem);
-            let period_letters = spelling::write(&links[0..size], true, j, period);
+    match found {
+        Ok(tally) => Ending::Included(counted(u, w, tally)),
+        Err(Stop::Lacking(tally)) => Ending::PeriodsFull(counted(u, w, tally)),
+        Err(Stop::Found(tally, lasso)) => {
+            let stem_letters = spelling::write::<StemEntry>(stems, lasso.stem, stem);
+            let table = &links[..lasso.size];
+            let period_letters = spelling::write::<PeriodLink>(table, lasso.period, period);
             let lengths = Lengths {
                 stem: stem_letters,
                 period: period_letters,
             };
-            Ending::Shown(Counts { u, w, p, t }, lengths)
+            Ending::Shown(counted(u, w, tally), lengths)
         }
     }
 }
@@ -76,15 +97,13 @@ fn show(
 fn stems_full(table: u8, u: usize, w: usize) -> Ending
     ensures { result ≡ StemsFull table (record { u = u; w = w; p = 0; t = 0 }) }
 {
-    Ending::StemsFull(table, Counts { u, w, p: 0, t: 0 })
+    Ending::StemsFull(table, counted(u, w, Tally { p: 0, t: 0 }))
 }
 
 // Both stem tables, the rounds, and the words of the lasso that they may find. The links and the contexts are left as the last period table has them.
 fn tell(
-    model: &[[u16; 16]; 16],
-    model_head: Head,
-    rule: &[[u8; 8]; 16],
-    rule_head: Head,
+    model: &Model,
+    rule: &Rule,
     stem_room: usize,
     period_room: usize,
     smallest: &mut [u32],
@@ -94,98 +113,52 @@ fn tell(
     stem: &mut [u8],
     period: &mut [u8],
 ) -> Ending
-    requires { Prepared (aut_of (cell model.now) model_head) (aut_of (cell rule.now) rule_head) stem_room period_room
+    requires { Prepared (aut model.now) (aut rule.now) stem_room period_room
         (record { smallest = smallest.old; largest = largest.old; links = links.old; contexts = contexts.old; stem = stem.old; period = period.old }) }
-    ensures { Told (walk (aut_of (cell model.now) model_head) (aut_of (cell rule.now) rule_head) stem_room period_room)
+    ensures { Told (walk (aut model.now) (aut rule.now) stem_room period_room)
         (record { smallest = smallest.old; largest = largest.old; links = links.old; contexts = contexts.old; stem = stem.old; period = period.old })
         (record { smallest = smallest.new; largest = largest.new; links = links.new; contexts = contexts.new; stem = stem.new; period = period.new })
         result }
 {
-    let first = stems::grow(
-        smallest, stem_room, model, model_head, rule, rule_head, false,
-    );
-    let Growth::Ended(u) = first else {
+    let first = stems::grow(smallest, stem_room, model, rule, false);
+    let Ok(u) = first else {
         return stems_full(0, stem_room, 0);
     };
-    let second = stems::grow(largest, stem_room, model, model_head, rule, rule_head, true);
-    let Growth::Ended(w) = second else {
+    let second = stems::grow(largest, stem_room, model, rule, true);
+    let Ok(w) = second else {
         return stems_full(1, u, stem_room);
     };
-    let u_table = &smallest[0..u];
-    let w_table = &largest[0..w];
-    let found = rounds::all(
-        u_table,
-        w_table,
-        links,
-        contexts,
-        period_room,
-        model,
-        model_head,
-        rule,
-        rule_head,
-    );
+    let u_table = &smallest[..u];
+    let w_table = &largest[..w];
+    let found = rounds::all(u_table, w_table, links, contexts, period_room, model, rule);
     show(found, u_table, w_table.len(), links, stem, period)
-}
-
-// Zeroes for links.
-fn clear_links(links: &mut [u32])
-    ensures { links.new ≡ replicate (length links.old) 0 }
-{
-    let mut i = 0;
-    while i < links.len() {
-        links[i] = 0;
-        i += 1;
-    }
-}
-
-// Zeroes for contexts.
-fn clear_contexts(contexts: &mut [u64])
-    ensures { contexts.new ≡ replicate (length contexts.old) 0 }
-{
-    let mut i = 0;
-    while i < contexts.len() {
-        contexts[i] = 0;
-        i += 1;
-    }
 }
 
 // The walk: what it answers, with the period table cleared.
 pub fn walk(
-    model: &[[u16; 16]; 16],
-    model_head: Head,
-    rule: &[[u8; 8]; 16],
-    rule_head: Head,
+    model: &Model,
+    rule: &Rule,
     stem_room: usize,
     period_room: usize,
-    smallest: &mut [u32],
-    largest: &mut [u32],
-    links: &mut [u32],
-    contexts: &mut [u64],
-    stem: &mut [u8],
-    period: &mut [u8],
+    lent: &mut Lent,
 ) -> Ending
-    requires { Prepared (aut_of (cell model.now) model_head) (aut_of (cell rule.now) rule_head) stem_room period_room
-        (record { smallest = smallest.old; largest = largest.old; links = links.old; contexts = contexts.old; stem = stem.old; period = period.old }) }
-    ensures { Concluded (walk (aut_of (cell model.now) model_head) (aut_of (cell rule.now) rule_head) stem_room period_room) period_room
-        (record { smallest = smallest.old; largest = largest.old; links = links.old; contexts = contexts.old; stem = stem.old; period = period.old })
-        (record { smallest = smallest.new; largest = largest.new; links = links.new; contexts = contexts.new; stem = stem.new; period = period.new })
-        result }
+    requires { Prepared (aut model.now) (aut rule.now) stem_room period_room (contents lent.old) }
+    ensures lent { StillLent lent.old lent.new }
+    ensures concluded { Concluded (walk (aut model.now) (aut rule.now) stem_room period_room) period_room (contents lent.old) (contents lent.new) result }
 {
     let ending = tell(
         model,
-        model_head,
         rule,
-        rule_head,
         stem_room,
         period_room,
-        smallest,
-        largest,
-        &mut links[0..period_room],
-        &mut contexts[0..2 * period_room],
-        stem,
-        period,
+        lent.smallest,
+        lent.largest,
+        &mut lent.links[..period_room],
+        &mut lent.contexts[..2 * period_room],
+        lent.stem,
+        lent.period,
     );
-    clear_links(&mut links[0..period_room]);
-    clear_contexts(&mut contexts[0..2 * period_room]);
+    lent.links[..period_room].fill(0);
+    lent.contexts[..2 * period_room].fill(0);
     ending
 }

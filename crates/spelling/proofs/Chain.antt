@@ -90,9 +90,10 @@ module _ (links : Bool) (t : List ℕ) where
       pub word : spelled i ≡ spelled (parent_of links (get_or t i 0)) ++ (letter_of links (get_or t i 0) ∷ [])
       pub count : length (spelled i) ≡ length (spelled (parent_of links (get_or t i 0))) + 1
 
-    pub step : {i : ℕ} → Inside (length t) i → (i ≡ top_of links → ⊥) → Step i
-    step {i} inside other =
-        let h : eqb i (top_of links) ≡ false = ne_eqb i (top_of links) other in
+    -- `top` is where the loops end
+    pub step : {i top : ℕ} → Inside (length t) i → top ≡ top_of links → (i ≡ top → ⊥) → Step i
+    step {i} inside is other =
+        let h : eqb i (top_of links) ≡ false = ne_eqb i (top_of links) (λ e. other (e ∙ sym is)) in
         let l : i < length t = inside_below inside h in
         let w = spelled_step i l h in
         record { low = l; up = parent_inside i l (omega arith) h; word = w; count = ap length w ∙ length-append (spelled (parent_of links (get_or t i 0))) (letter_of links (get_or t i 0) ∷ []) }

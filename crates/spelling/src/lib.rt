@@ -1,53 +1,80 @@
 //! The word of an entry, of the stems or of the links, read along its parents and stored back to front.
 #![tactic(auto)]
 
-ghost use Rattle.std.specs.Prelude.{◌≡◌, ◌-◌, ◌<◌, ◌≤◌, length, set};
+ghost use Rattle.std.specs.Prelude.{◌≡◌, ◌-◌, ◌<◌, ◌≤◌, Bool, true, false, length, set};
 ghost use Rattle.walk.specs.Words.{top_of, parent_of, letter_of, word_of};
 ghost use Rattle.spelling.specs.Written.{Backward, Written};
 
 use bits::entries;
 
-// The parent at which a word begins.
-fn top(links: bool) -> usize
-    ensures { result ≡ top_of links }
-{
-    if links {
-        return 65535;
-    }
-    0
+// How a word is read off the entries of a table.
+pub trait Entry {
+    // The entries are period links, and else stem entries.
+    ghost links: { Bool };
+
+    // The parent at which a word begins.
+    fn top() -> usize
+        ensures { result ≡ top_of links };
+
+    // The parent of an entry.
+    fn parent(entry: u32) -> usize
+        ensures { result ≡ parent_of links entry };
+
+    // The last letter of an entry's word.
+    fn letter(entry: u32) -> u8
+        ensures { result ≡ letter_of links entry };
 }
 
-// The parent of an entry.
-fn parent(entry: u32, links: bool) -> usize
-    ensures { result ≡ parent_of links entry }
-{
-    if links {
-        return entries::link_parent(entry) as usize;
+// An entry of U or W.
+pub struct StemEntry;
+
+impl Entry for StemEntry {
+    ghost links = { false };
+
+    fn top() -> usize {
+        0
     }
-    entries::stem_parent(entry) as usize
+
+    fn parent(entry: u32) -> usize {
+        usize::from(entries::stem_parent(entry))
+    }
+
+    fn letter(entry: u32) -> u8 {
+        entries::stem_letter(entry)
+    }
 }
 
-// The last letter of an entry's word.
-fn letter(entry: u32, links: bool) -> u8
-    ensures { result ≡ letter_of links entry }
-{
-    if links {
-        return entries::link_letter(entry);
+// An entry of a period table.
+pub struct PeriodLink;
+
+impl Entry for PeriodLink {
+    ghost links = { true };
+
+    fn top() -> usize {
+        65535
     }
-    entries::stem_letter(entry)
+
+    fn parent(entry: u32) -> usize {
+        usize::from(entries::link_parent(entry))
+    }
+
+    fn letter(entry: u32) -> u8 {
+        entries::link_letter(entry)
+    }
 }
 
 // The letters of an entry's word: one for each step up to the top.
-fn letters(table: &[u32], links: bool, entry: usize) -> usize
-    requires backward { Backward links table.now }
+#[tactic(auto, using(crate::proofs::Chain::step, crate::proofs::Chain::spelled_length))]
+fn letters<E: Entry>(table: &[u32], entry: usize) -> usize
+    requires backward { Backward E.links table.now }
     requires in_bounds { entry < length table.now }
-    ensures { result ≡ length (word_of links table.now entry) }
+    ensures { result ≡ length (word_of E.links table.now entry) }
 {
-    let end = top(links);
+    let end = E::top();
     let mut i = entry;
     let mut n = 0;
     while i != end {
-        i = parent(table[i], links);
+        i = E::parent(table[i]);
         n += 1;
     }
     n
@@ -64,22 +91,23 @@ fn put_last(part: &mut [u8], x: u8)
 
 // Writes the word of an entry into the first bytes of an output: its last letter goes into the last free place of their prefix, and so on up the
 // parents. The answer is the number of its letters.
-pub fn write(table: &[u32], links: bool, entry: usize, out: &mut [u8]) -> usize
-    requires backward { Backward links table.now }
+#[tactic(auto, using(crate::proofs::Chain::step, crate::proofs::Chain::spelled_length))]
+pub fn write<E: Entry>(table: &[u32], entry: usize, out: &mut [u8]) -> usize
+    requires backward { Backward E.links table.now }
     requires in_bounds { entry < length table.now }
     requires table_in_bounds { length table.now ≤ length out.old }
-    ensures { Written (word_of links table.now entry) result out.old out.new }
+    ensures { Written (word_of E.links table.now entry) result out.old out.new }
 {
-    let n = letters(table, links, entry);
-    let end = top(links);
+    let n = letters::<E>(table, entry);
+    let end = E::top();
     let prefix = &mut out[0..n];
     let mut i = entry;
     let mut free = n;
     while i != end {
         let e = table[i];
         let last = free - 1;
-        put_last(&mut prefix[last..free], letter(e, links));
-        i = parent(e, links);
+        put_last(&mut prefix[last..free], E::letter(e));
+        i = E::parent(e);
         free = last;
     }
     n

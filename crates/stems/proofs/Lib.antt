@@ -3,6 +3,6 @@ pub mod AtWork
 pub mod Flags
 pub mod Packed
 pub mod Parents
-pub mod Growing
+pub mod Loop
 pub mod Candidates
 pub mod Rooted

@@ -1,40 +1,53 @@
 -- A table that grows from its root: once the root has been offered, the rest of the whole is what comes of taking the entries. Assumes nothing.
-use mathlib.Core.Path.{◌≡◌, refl}
+use mathlib.Core.Path.{◌≡◌, refl, sym, ap₂, subst}
 use mathlib.Core.Bool.{Bool}
 use mathlib.Core.List.{List, [], ◌∷◌}
+use Rattle.std.specs.Prelude.{Result, Ok, Err}
 use Prim.Native.Nat.{ℕ, ◌^◌, ◌≤◌}
-use lib.ListN.{length, take}
+use native.Mathlib.Omega.{arith}
+use lib.ListN.{length, replicate}
 use Rattle.bits.specs.Fields.{stem_entry}
-use Rattle.growth.specs.declared.Growth.{Growth}
-use Rattle.growth.specs.declared.Growth.TheVariants.{Ended, Full}
+use Rattle.growth.specs.declared.Full.{Full}
 use Rattle.growth.specs.Grow.{Outcome, onward, grow, table}
 use Rattle.growth.proofs.Offering.{grow_longer}
-use Rattle.automata.specs.declared.Head.{Head}
-use Rattle.automata.specs.Loaded.{cell, aut_of, steps_of}
+use Rattle.automata.specs.declared.Automaton.{Automaton}
+use Rattle.automata.specs.Loaded.{aut, aut_of}
+use Rattle.stems.specs.declared.Growing.{Growing}
 use Rattle.stems.specs.Stems.{stem_covers, stem_root, stem_next, stem_table}
-use Rattle.stems.specs.Growing.{offered, Kept}
-use Rattle.stems.proofs.Candidates.{heads_apart}
-use Rattle.stems.proofs.Growing.{Going, ready_none, going_from, going_on, going_full, going_last}
+use Rattle.stems.specs.Growing.{held, Ready, offered, Kept}
+use Rattle.stems.proofs.Flags.{marked_none}
+use Rattle.stems.proofs.Loop.{grown_self, Going, going_on, going_full, going_last}
 
-module _ (model rule : List (List ℕ)) (first second : Head) {root : ℕ} (at-root : root ≡ stem_entry (2 ^ second.start) first.start 0 0)
-    {largest : Bool} {room : ℕ} {t s marks : List ℕ} {r : Growth} (small : room ≤ 4096) (lent : room ≤ length t)
-    (k : Kept largest (offered largest room 0 t (root ∷ [])) t s marks r) where
+-- no entry, no flag
+pub ready_none : {g : Growing} → g.n ≡ 0 → g.marks ≡ replicate 512 0 → g.room ≤ 4096 → g.room ≤ length g.table.now → Ready g
+ready_none {g} n marks small lent = record { within = omega arith; small = small; lent = lent; marked = rw (n, marks) (marked_none g.largest) }
+
+module _ (model rule : Automaton (List (List ℕ))) {root : ℕ} (at-root : root ≡ stem_entry (2 ^ rule.head.start) model.head.start 0 0)
+    {g new : Growing} {r : Result (Unit {0}) Full} (n : g.n ≡ 0) (ready : Ready g) (k : Kept (offered g (root ∷ [])) g new r) where
   abbrev whole : Outcome ℕ
-  whole = stem_table (aut_of (cell model) first) (aut_of (cell rule) second) largest room
+  whole = stem_table (aut model) (aut rule) g.largest g.room
 
   -- what comes of a table when its entries are taken, from the first on
   abbrev rest : List ℕ → Outcome ℕ
-  rest = grow (stem_covers largest) (stem_next (steps_of model) (steps_of rule)) room room 0
+  rest = grow (stem_covers g.largest) (stem_next (aut model) (aut rule)) g.room g.room 0
 
-  whole_is : whole ≡ onward (offered largest room 0 t (root ∷ [])) rest
+  whole_is : whole ≡ onward (offered g (root ∷ [])) rest
   unfolding stem_table table stem_root aut_of
-  whole_is = rw (at-root, heads_apart model rule first second) refl
+  whole_is = rw (at-root, n) refl
 
-  pub root_full : r ≡ Full → Kept largest whole t s marks Full
-  root_full = going_full largest room (root ∷ []) rest (going_from largest room (ready_none largest room t small lent)) whole_is k
+  going : Going whole (onward (offered g (root ∷ [])) rest) g g
+  going = record { grown = grown_self ready; same = sym whole_is }
 
-  pub root_on : {n : ℕ} → r ≡ Ended n → Going largest room whole (rest (take n s)) t n s marks
-  root_on = going_on largest room (root ∷ []) rest (going_from largest room (ready_none largest room t small lent)) whole_is k
+  -- no room for it
+  pub root_full : {err : Full} → r ≡ Err err → Kept whole g new r
+  root_full f = going_full (root ∷ []) rest going refl k f (rw f refl)
 
-  pub root_last : {n : ℕ} {s' marks' : List ℕ} {r' : Growth} → r ≡ Ended n → Kept largest (rest (take n s)) s s' marks' r' → Kept largest whole t s' marks' r'
-  root_last {n} e = going_last largest room (root_on e) (grow_longer (stem_covers largest) room (stem_next (steps_of model) (steps_of rule)) room 0 (take n s))
+  -- the entries are taken
+  pub root_last : {u : Unit {0}} {last : Growing} {r' : Result (Unit {0}) Full} → r ≡ Ok u
+      → Kept (grow (stem_covers new.largest) (stem_next (aut model) (aut rule)) new.room new.room 0 (held new)) new last r' → Kept whole g last r'
+  root_last {last = last} {r'} f k' =
+      going_last (going_on (root ∷ []) rest going refl k f) (grow_longer (stem_covers g.largest) g.room (stem_next (aut model) (aut rule)) g.room 0 (held new))
+      (subst (λ o. Kept o new last r') taken k')
+    where
+      taken : grow (stem_covers new.largest) (stem_next (aut model) (aut rule)) new.room new.room 0 (held new) ≡ rest (held new)
+      taken = ap₂ (λ (largest : Bool) (room : ℕ). grow (stem_covers largest) (stem_next (aut model) (aut rule)) room room 0 (held new)) k.grown.same_largest k.grown.same_room

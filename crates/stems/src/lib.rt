@@ -1,18 +1,20 @@
 //! The stem tables U and W (document 01, "The walk", 1 and 2), grown in a lent table.
 #![tactic(auto)]
 
-ghost use Rattle.std.specs.Prelude.{◌≡◌, [], ◌∷◌, ◌^◌, ◌≤◌, ◌<◌, length, get_or, take};
+ghost use Rattle.std.specs.Prelude.{◌≡◌, [], ◌∷◌, ◌^◌, ◌≤◌, ◌<◌, length, get_or};
 ghost use Rattle.bits.specs.Fields.{stem_entry};
-ghost use Rattle.automata.specs.Loaded.{cell, aut_of, steps_of};
+ghost use Rattle.automata.specs.Loaded.{aut, steps_of};
 
-use automata::Head;
-use growth::Growth;
+use automata::{Model, Rule};
+use bits::members;
+use bits::members::Set;
+use growth::Full;
 // `grow` is a name of this crate too.
 ghost use Rattle.growth.specs.Grow.{grow as taken};
 ghost use Rattle.stems.specs.Stems.{stem_covers, stem_next, stem_table};
 ghost use Rattle.stems.specs.Held.{Held};
 ghost use Rattle.stems.specs.Candidates.{at_state, at_letter, move_of};
-ghost use Rattle.stems.specs.Growing.{Ready, offered, Kept};
+ghost use Rattle.stems.specs.Growing.{held, Ready, offered, Kept};
 
 mod marks;
 
@@ -25,148 +27,20 @@ struct Move {
     parent: u16,
 }
 
-// A candidate is dropped where it is covered, and else appended and marked where there is room.
-fn offer(
-    table: &mut [u32],
-    marks: &mut [u8; 512],
-    room: usize,
-    n: usize,
-    largest: bool,
-    entry: u32,
-) -> Growth
-    requires { Ready largest room n table.old marks.old }
-    ensures { Kept largest (offered largest room n table.old (entry ∷ [])) table.old table.new marks.new result }
-{
-    if marks::look(marks, entry) {
-        return Growth::Ended(n);
-    }
-    if n >= room {
-        return Growth::Full;
-    }
-    table[n] = entry;
-    marks::mark(marks, entry, largest);
-    Growth::Ended(n + 1)
-}
-
-// The candidate at state q, where q is a successor.
-fn offer_at(
-    table: &mut [u32],
-    marks: &mut [u8; 512],
-    room: usize,
-    n: usize,
-    largest: bool,
-    by: Move,
-    q: u8,
-) -> Growth
-    requires ready { Ready largest room n table.old marks.old }
-    requires letter_bound { (by.letter < 16) × (q < 16) }
-    ensures { Kept largest (offered largest room n table.old (at_state by q)) table.old table.new marks.new result }
-{
-    if bits::members::has16(by.successors, q as usize) {
-        let entry = bits::entries::stem_entry(by.target, q, by.letter, by.parent);
-        return offer(table, marks, room, n, largest, entry);
-    }
-    Growth::Ended(n)
-}
-
-// The candidates by one letter: successor states rising.
-fn by_letter(
-    table: &mut [u32],
-    marks: &mut [u8; 512],
-    room: usize,
-    n: usize,
-    largest: bool,
-    by: Move,
-) -> Growth
-    requires ready { Ready largest room n table.old marks.old }
-    requires letter_bound { by.letter < 16 }
-    ensures { Kept largest (offered largest room n table.old (at_letter by)) table.old table.new marks.new result }
-{
-    let mut count = n;
-    let mut q = 0u8;
-    while q < 16 {
-        let Growth::Ended(more) = offer_at(table, marks, room, count, largest, by, q) else {
-            return Growth::Full;
-        };
-        count = more;
-        q += 1;
-    }
-    Growth::Ended(count)
-}
-
 // The entry at index i by the letter x.
-fn step(model: &[[u16; 16]; 16], rule: &[[u8; 8]; 16], i: u16, entry: u32, x: usize) -> Move
+fn step(model: &Model, rule: &Rule, i: u16, entry: u32, x: u8) -> Move
     requires { x < 16 }
-    ensures { result ≡ move_of model.now rule.now i entry x }
+    ensures { result ≡ move_of model.now.table rule.now.table i entry x }
 {
-    let state = bits::entries::stem_state(entry) as usize;
+    let letter = usize::from(x);
+    let state = usize::from(bits::entries::stem_state(entry));
     let target = bits::entries::stem_target(entry);
     Move {
-        successors: model[x][state],
-        target: bits::members::moved(rule[x], target),
-        letter: x as u8,
+        successors: model.table[letter][state],
+        target: members::moved(&rule.table[letter], target),
+        letter: x,
         parent: i,
     }
-}
-
-// The candidates of the entry at index i: letters rising.
-fn expand(
-    table: &mut [u32],
-    marks: &mut [u8; 512],
-    room: usize,
-    n: usize,
-    largest: bool,
-    model: &[[u16; 16]; 16],
-    rule: &[[u8; 8]; 16],
-    i: usize,
-) -> Growth
-    requires ready { Ready largest room n table.old marks.old }
-    requires i_lt_n { i < n }
-    ensures { Kept largest (offered largest room n table.old (stem_next (steps_of model.now) (steps_of rule.now) i (get_or table.old i 0))) table.old table.new marks.new result }
-{
-    let entry = table[i];
-    let mut count = n;
-    let mut x = 0;
-    while x < 16 {
-        let Growth::Ended(more) = by_letter(
-            table,
-            marks,
-            room,
-            count,
-            largest,
-            step(model, rule, i as u16, entry, x),
-        ) else {
-            return Growth::Full;
-        };
-        count = more;
-        x += 1;
-    }
-    Growth::Ended(count)
-}
-
-// The entries are taken in order, until all have been taken or one that must be appended lacks room.
-fn take_all(
-    table: &mut [u32],
-    marks: &mut [u8; 512],
-    room: usize,
-    n: usize,
-    largest: bool,
-    model: &[[u16; 16]; 16],
-    rule: &[[u8; 8]; 16],
-) -> Growth
-    requires { Ready largest room n table.old marks.old }
-    ensures { Kept largest (taken (stem_covers largest) (stem_next (steps_of model.now) (steps_of rule.now)) room room 0 (take n table.old)) table.old table.new marks.new result }
-{
-    let mut count = n;
-    let mut i = 0;
-    while i < count {
-        let Growth::Ended(more) = expand(table, marks, room, count, largest, model, rule, i) else {
-            return Growth::Full;
-        };
-        count = more;
-        i += 1;
-    }
-    Growth::Ended(count)
 }
 
 // The root: a state of A, the empty word, one state of B.
@@ -177,24 +51,106 @@ fn root(state: u8, start: u8) -> u32
     bits::entries::stem_entry(1u8 << start, state, 0, 0)
 }
 
+// A lent table while it grows: its first n elements are the entries, and the flags tell what they cover.
+#[derive(Drop)]
+struct Growing<'a> {
+    table: &'a mut [u32],
+    marks: [u8; 512],
+    room: usize,
+    n: usize,
+    largest: bool,
+}
+
+impl Growing<'_> {
+    // A candidate is dropped where it is covered, and else appended and marked where there is room.
+    fn offer(&mut self, entry: u32) -> Result<(), Full>
+        requires { Ready self.old }
+        ensures { Kept (offered self.old (entry ∷ [])) self.old self.new result }
+    {
+        if marks::look(&self.marks, entry) {
+            return Ok(());
+        }
+        if self.n >= self.room {
+            return Err(Full);
+        }
+        self.table[self.n] = entry;
+        marks::mark(&mut self.marks, entry, self.largest);
+        self.n += 1;
+        Ok(())
+    }
+
+    // The candidate at state q, where q is a successor.
+    fn offer_at(&mut self, by: Move, q: u8) -> Result<(), Full>
+        requires ready { Ready self.old }
+        requires letter_bound { (by.letter < 16) × (q < 16) }
+        ensures { Kept (offered self.old (at_state by q)) self.old self.new result }
+    {
+        if by.successors.has(usize::from(q)) {
+            let entry = bits::entries::stem_entry(by.target, q, by.letter, by.parent);
+            return self.offer(entry);
+        }
+        Ok(())
+    }
+
+    // The candidates by one letter: successor states rising.
+    fn by_letter(&mut self, by: Move) -> Result<(), Full>
+        requires ready { Ready self.old }
+        requires letter_bound { by.letter < 16 }
+        ensures { Kept (offered self.old (at_letter by)) self.old self.new result }
+    {
+        for q in 0..16 {
+            self.offer_at(by, q)?;
+        }
+        Ok(())
+    }
+
+    // The candidates of the entry at index i: letters rising.
+    fn expand(&mut self, model: &Model, rule: &Rule, i: usize) -> Result<(), Full>
+        requires ready { Ready self.old }
+        requires i_lt_n { i < self.old.n }
+        ensures { Kept (offered self.old (stem_next (aut model.now) (aut rule.now) i (get_or self.old.table.now i 0))) self.old self.new result }
+    {
+        let entry = self.table[i];
+        for x in 0..16 {
+            self.by_letter(step(model, rule, i as u16, entry, x))?;
+        }
+        Ok(())
+    }
+
+    // The entries are taken in order, until all have been taken or one that must be appended lacks room.
+    fn take_all(&mut self, model: &Model, rule: &Rule) -> Result<(), Full>
+        requires { Ready self.old }
+        ensures { Kept (taken (stem_covers self.old.largest) (stem_next (aut model.now) (aut rule.now)) self.old.room self.old.room 0 (held self.old)) self.old self.new result }
+    {
+        let mut i = 0;
+        while i < self.n {
+            self.expand(model, rule, i)?;
+            i += 1;
+        }
+        Ok(())
+    }
+}
+
 // U, or W where `largest`, in the first elements of the lent table. It grows from its root; at first no flag is up.
 pub fn grow(
     table: &mut [u32],
     room: usize,
-    model: &[[u16; 16]; 16],
-    model_head: Head,
-    rule: &[[u8; 8]; 16],
-    rule_head: Head,
+    model: &Model,
+    rule: &Rule,
     largest: bool,
-) -> Growth
+) -> Result<usize, Full>
     requires room_bound { (room ≤ 4096) × (room ≤ length table.old) }
-    requires model_head_bound { (model_head.start < 16) × (rule_head.start < 8) }
-    ensures { Held (stem_table (aut_of (cell model.now) model_head) (aut_of (cell rule.now) rule_head) largest room) table.old table.new result }
+    requires start_bound { (model.now.head.start < 16) × (rule.now.head.start < 8) }
+    ensures { Held (stem_table (aut model.now) (aut rule.now) largest room) table.old table.new result }
 {
-    let mut marks = [0u8; 512];
-    let first = root(model_head.start, rule_head.start);
-    let Growth::Ended(n) = offer(table, &mut marks, room, 0, largest, first) else {
-        return Growth::Full;
+    let mut growing = Growing {
+        table,
+        marks: [0; 512],
+        room,
+        n: 0,
+        largest,
     };
-    take_all(table, &mut marks, room, n, largest, model, rule)
+    growing.offer(root(model.head.start, rule.head.start))?;
+    growing.take_all(model, rule)?;
+    Ok(growing.n)
 }

@@ -4,14 +4,18 @@ ghost use Rattle.bits.specs.Bits.{bit, set_of};
 ghost use Rattle.stems.specs.Stems.{target_covers};
 ghost use Rattle.stems.specs.Flags.{flag_at, Raised};
 
+use bits::members::Set;
+
 // Does the target of an entry cover that of a candidate?
+#[tactic(auto, unfolding(crate::specs::Stems::target_covers))]
 fn covers(old: u8, new: u8, largest: bool) -> bool
     ensures { result ≡ target_covers largest old new }
 {
     if largest {
-        return bits::members::within(new, old);
+        bits::members::within(new, old)
+    } else {
+        bits::members::within(old, new)
     }
-    bits::members::within(old, new)
 }
 
 // Of the eight targets from `first` on, those that the target `old` covers.
@@ -19,11 +23,9 @@ fn covered_from(old: u8, first: u8, largest: bool) -> u8
     requires { first ≤ 248 }
     ensures { result ≡ set_of (λ j. target_covers largest old (first + j)) 8 }
 {
-    let mut out: u8 = 0;
-    let mut j = 0u8;
-    while j < 8 {
-        out = out | ((covers(old, first + j, largest) as u8) << j);
-        j += 1;
+    let mut out = u8::none();
+    for j in 0..8 {
+        out = out.union(u8::only(usize::from(j), covers(old, first + j, largest)));
     }
     out
 }
@@ -40,7 +42,7 @@ fn flag(eight: u8, q: usize) -> bool
     requires { q < 8 }
     ensures { result ≡ bit eight q }
 {
-    bits::members::has16(eight as u16, q)
+    eight.has(q)
 }
 
 // Is a candidate covered? Its flag says it.
@@ -56,12 +58,10 @@ pub fn mark(marks: &mut [u8; 512], entry: u32, largest: bool)
     requires { length marks.old ≡ 512 }
     ensures { Raised largest entry marks.old marks.new }
 {
-    let state = bits::entries::stem_state(entry) as usize;
+    let state = usize::from(bits::entries::stem_state(entry));
     let target = bits::entries::stem_target(entry);
-    let mut g = 0;
-    while g < 32 {
-        let at = 32 * state + g;
-        marks[at] = marks[at] | covered_from(target, (8 * g) as u8, largest);
-        g += 1;
+    for g in 0..32u8 {
+        let at = 32 * state + usize::from(g);
+        marks[at] |= covered_from(target, 8 * g, largest);
     }
 }

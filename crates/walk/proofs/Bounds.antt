@@ -102,7 +102,7 @@ module _ {A B : Aut} {u : List ℕ} {room : ℕ} where
   -- no table lacks room
   ran_decided : {cs : List (ℕ × ℕ)} {p t : ℕ} {o : Finish} → Ran A B u room cs p t o → ((c : ℕ × ℕ) → Memᴰ c cs → Complete (period_table A B c.0 c.1 room)) → decided o.verdict ≡ true
   ran_decided done h = refl
-  ran_decided (lacking {c = c} v e) h = let f = h c (Memᴰ.head refl) in absurd (let z : ◌≡◌ {A = ℕ} 0 1 = cc in omega arith)
+  ran_decided (lacking {c = c} v e) h = let f = h c (Memᴰ.head refl) in absurd cc
   ran_decided (going v e s r) h = ran_decided r (λ d m. h d (Memᴰ.tail m))
   ran_decided (found v e s) h = refl
 
@@ -149,6 +149,6 @@ module _ {A B : Aut} (bound : Bounded 16 16 A) (small : Small 8 B) {a b : ℕ} (
   walk_decided l k = at (walks A B S P)
     where
       at : {r : Walked} → Walks A B S P r → decided r.finish.verdict ≡ true
-      at (u_full u e) = let c = stem_enough bound small false S by-a by-b l in absurd (let z : ◌≡◌ {A = ℕ} 0 1 = cc in omega arith)
-      at (w_full u w e f) = let c = stem_enough bound small true S by-a by-b l in absurd (let z : ◌≡◌ {A = ℕ} 0 1 = cc in omega arith)
+      at (u_full u e) = let c = stem_enough bound small false S by-a by-b l in absurd cc
+      at (w_full u w e f) = let c = stem_enough bound small true S by-a by-b l in absurd cc
       at (ran u w e f h) = ran_decided h (λ c m. table_enough k (rw f m))

@@ -60,16 +60,16 @@ module _ {A B : Aut} {u : List ℕ} where
 
   -- a table that lacks room is filled, and no other had more entries
   pub ran_filled : {room : ℕ} {cs : List (ℕ × ℕ)} {p t : ℕ} {o : Finish} → Ran A B u room cs p t o → p ≤ room → o.verdict ≡ periods_full → o.periods ≡ room
-  ran_filled done l q = absurd (let z : ◌≡◌ {A = ℕ} 0 1 = cc in omega arith)
+  ran_filled done l q = absurd cc
   ran_filled {room} (lacking {c = c} v e) l q = omega (arith, (periods A B c.0 c.1).filled room v e)
   ran_filled {room} (going {c = c} v e s r) l q = ran_filled r (omega (arith, rw e at ((periods A B c.0 c.1).within room))) q
-  ran_filled (found v e s) l q = absurd (let z : ◌≡◌ {A = ℕ} 0 1 = cc in omega arith)
+  ran_filled (found v e s) l q = absurd cc
 
   pub ran_not_stems : {room : ℕ} {cs : List (ℕ × ℕ)} {p t : ℕ} {o : Finish} {k : ℕ} → Ran A B u room cs p t o → o.verdict ≡ stems_full k → ⊥
-  ran_not_stems done q = let z : ◌≡◌ {A = ℕ} 0 1 = cc in omega arith
-  ran_not_stems (lacking v e) q = let z : ◌≡◌ {A = ℕ} 0 1 = cc in omega arith
+  ran_not_stems done q = cc
+  ran_not_stems (lacking v e) q = cc
   ran_not_stems (going v e s r) q = ran_not_stems r q
-  ran_not_stems (found v e s) q = let z : ◌≡◌ {A = ℕ} 0 1 = cc in omega arith
+  ran_not_stems (found v e s) q = cc
 
 -- the rounds with room for P, told from a run that comes to some tables and gives a verdict: the same, or stopped at the first with more than P entries
 pub data Cut (P : ℕ) (tables : List Visit) (free : Finish) : Finish → Type 0 where

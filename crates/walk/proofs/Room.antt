@@ -32,13 +32,13 @@ walk_filled A B S P = at (walks A B S P)
     at : {r : Walked} → Walks A B S P r → Filled S P r
     at (u_full u e) = record {
       in_u = λ q. ((stems A B false).filled S u e, refl, refl, refl);
-      in_w = λ q. absurd (let z : ◌≡◌ {A = ℕ} 0 1 = cc in omega arith);
-      in_periods = λ q. absurd (let z : ◌≡◌ {A = ℕ} 0 1 = cc in omega arith);
+      in_w = λ q. absurd cc;
+      in_periods = λ q. absurd cc;
     }
     at (w_full u w e f) = record {
-      in_u = λ q. absurd (let z : ◌≡◌ {A = ℕ} 0 1 = cc in omega arith);
+      in_u = λ q. absurd cc;
       in_w = λ q. ((stems A B true).filled S w f, refl, refl);
-      in_periods = λ q. absurd (let z : ◌≡◌ {A = ℕ} 0 1 = cc in omega arith);
+      in_periods = λ q. absurd cc;
     }
     at (ran u w e f h) = record {
       in_u = λ q. absurd (ran_not_stems h q);
@@ -94,23 +94,23 @@ pub record Short (free : Walked) (tables : List Visit) (S P : ℕ) (f : Finish) 
 short_told : {free : Walked} {tables : List Visit} {S P : ℕ} {f : Finish} → decided free.finish.verdict ≡ true → Told free tables S P f → Short free tables S P f
 short_told d (u_lacks l) = record {
   of_u = (λ q. l, λ m. refl);
-  of_w = neither (λ q. let z : ◌≡◌ {A = ℕ} 0 1 = cc in omega arith) (λ m. omega arith);
-  of_periods = neither (λ q. let z : ◌≡◌ {A = ℕ} 0 1 = cc in omega arith) (λ m. omega arith);
+  of_w = neither (λ q. cc) (λ m. omega arith);
+  of_periods = neither (λ q. cc) (λ m. omega arith);
 }
 short_told d (w_lacks l k) = record {
-  of_u = neither (λ q. let z : ◌≡◌ {A = ℕ} 0 1 = cc in omega arith) (λ m. omega arith);
+  of_u = neither (λ q. cc) (λ m. omega arith);
   of_w = (λ q. (l, k), λ m. refl);
-  of_periods = neither (λ q. let z : ◌≡◌ {A = ℕ} 0 1 = cc in omega arith) (λ m. omega arith);
+  of_periods = neither (λ q. cc) (λ m. omega arith);
 }
 short_told d (both_fit l k (cut t s)) = record {
-  of_u = neither (λ q. let z : ◌≡◌ {A = ℕ} 0 1 = cc in omega arith) (λ m. omega arith);
-  of_w = neither (λ q. let z : ◌≡◌ {A = ℕ} 0 1 = cc in omega arith) (λ m. omega arith);
+  of_u = neither (λ q. cc) (λ m. omega arith);
+  of_w = neither (λ q. cc) (λ m. omega arith);
   of_periods = (λ q. (l, k, s), λ m. refl);
 }
 short_told d (both_fit l k (uncut s)) = record {
   of_u = neither (λ q. true≢false (sym d ∙ ap decided q)) (λ m. omega arith);
   of_w = neither (λ q. true≢false (sym d ∙ ap decided q)) (λ m. omega arith);
-  of_periods = neither (λ q. true≢false (sym d ∙ ap decided q)) (λ m. let e = m.2 in let z : ◌≡◌ {A = ℕ} 0 1 = cc in omega arith);
+  of_periods = neither (λ q. true≢false (sym d ∙ ap decided q)) (λ m. let e = m.2 in cc);
 }
 
 -- ---- against the walk without room

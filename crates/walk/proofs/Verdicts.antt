@@ -5,7 +5,6 @@ use mathlib.Core.Bool.{true, false, true≢false}
 use mathlib.Core.List.Memᴰ
 use mathlib.Core.List.{List, Memᴰ}
 use Prim.Native.Nat.{ℕ, ◌≤◌}
-use native.Mathlib.Omega.{arith}
 use Rattle.acceptance.specs.Lasso.{Word, Aut, Included, Shown}
 use Rattle.acceptance.specs.Contexts.{Small}
 use Rattle.growth.specs.Grow.{ended, Complete}
@@ -40,18 +39,18 @@ module _ {A B : Aut} {u : List ℕ} {room : ℕ} where
 
   ran_included : {cs : List (ℕ × ℕ)} {p t : ℕ} {o : Finish} → Ran A B u room cs p t o → o.verdict ≡ included → (c : ℕ × ℕ) → Memᴰ c cs → Passed A B u room c
   ran_included done q c m = absurd (Memᴰ.not-nil m)
-  ran_included (lacking v e) q c m = absurd (let z : ◌≡◌ {A = ℕ} 0 1 = cc in omega arith)
+  ran_included (lacking v e) q c m = absurd cc
   ran_included (going {c = d} v e s r) q c (Memᴰ.head same) = rw same (passes d e (searched _ _ _ s))
   ran_included (going v e s r) q c (Memᴰ.tail m) = ran_included r q c m
-  ran_included (found v e s) q c m = absurd (let z : ◌≡◌ {A = ℕ} 0 1 = cc in omega arith)
+  ran_included (found v e s) q c m = absurd cc
 
   rejects : (c : ℕ × ℕ) {v : List Period} {t k i j : ℕ} → period_table A B c.0 c.1 room ≡ ended v
       → Searched (accepts u (contexts_of v)) (pairs_of u c.0 c.1 (links_of v)) t (rejected k i j) → Shows A B u room c → Shown A B (stem_word u i) (period_word (links_of v) j)
   rejects c {i = i} {j = j} e (one_fails k i' j' l n m f) h = rw e at (h.shows i j (rw e m) (rw e f))
 
   ran_shown : {cs : List (ℕ × ℕ)} {p t : ℕ} {o : Finish} {x y : Word} → Ran A B u room cs p t o → ((c : ℕ × ℕ) → Memᴰ c cs → Shows A B u room c) → o.verdict ≡ shown x y → Shown A B x y
-  ran_shown done h q = absurd (let z : ◌≡◌ {A = ℕ} 0 1 = cc in omega arith)
-  ran_shown (lacking v e) h q = absurd (let z : ◌≡◌ {A = ℕ} 0 1 = cc in omega arith)
+  ran_shown done h q = absurd cc
+  ran_shown (lacking v e) h q = absurd cc
   ran_shown (going v e s r) h q = ran_shown r (λ c m. h c (Memᴰ.tail m)) q
   ran_shown {x = x} {y = y} (found {c = c} {i = i} {j = j} v e s) h q =
       let stem : stem_word u i ≡ x = cc in

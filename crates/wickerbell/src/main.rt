@@ -3,9 +3,8 @@
 
 ghost use Rattle.std.specs.Prelude.{◌≤◌, length};
 
-use inclusion::Answer;
-use records::Refusal;
-use search::Counts;
+use inclusion::{Answer, Letters};
+use search::Lent;
 use std::fs::File;
 use std::io;
 use std::io::Read;
@@ -36,60 +35,21 @@ fn read_full<R: Read + Drop>(mut file: R, buffer: &mut [u8]) -> usize
     done
 }
 
-fn text(rt: &impl Print, words: &str) -> io::Result<()> {
-    print!(rt; "{words}")
-}
-
-// A number after what stands before it.
-fn number(rt: &impl Print, before: &str, n: u64) -> io::Result<()> {
-    print!(rt; "{before}{n}")
-}
-
-fn print_counts(rt: &impl Print, c: Counts) -> io::Result<()> {
-    println!(rt; "U={} W={} P={} T={}", c.u, c.w, c.p, c.t)
-}
-
-fn print_refusal(rt: &impl Print, r: Refusal) -> io::Result<()> {
-    println!(rt; "REFUSED {} {} {}", r.number, r.which, r.place)
-}
-
-fn wide(letter: u8) -> u64 {
-    u64::from(letter)
-}
-
-// The letters of a word, each as a space and a decimal number.
-fn print_word(rt: &impl Print, name: &str, word: &[u8]) -> io::Result<()> {
-    text(rt, name)?;
-    for letter in word {
-        number(rt, " ", wide(*letter))?;
-    }
-    text(rt, "\n")
-}
-
-// The first n letters of an output.
-fn print_prefix(rt: &impl Print, name: &str, output: &[u8], n: usize) -> io::Result<()> {
-    if n <= output.len() {
-        print_word(rt, name, &output[..n])?;
-    }
-    Ok(())
-}
-
 fn print(rt: &impl Print, answer: Answer, stem: &[u8], period: &[u8]) -> io::Result<()> {
     match answer {
-        Answer::Included(counts) => {
-            text(rt, "INCLUDED\n")?;
-            print_counts(rt, counts)
-        }
+        Answer::Included(counts) => println!(rt; "INCLUDED\n{counts}"),
         Answer::NotIncluded(counts, lengths) => {
-            text(rt, "NOT INCLUDED\n")?;
-            print_counts(rt, counts)?;
-            print_prefix(rt, "stem:", stem, lengths.stem)?;
-            print_prefix(rt, "period:", period, lengths.period)
+            let stem = Letters {
+                output: stem,
+                count: lengths.stem,
+            };
+            let period = Letters {
+                output: period,
+                count: lengths.period,
+            };
+            println!(rt; "NOT INCLUDED\n{counts}\nstem:{stem}\nperiod:{period}")
         }
-        Answer::Refused(refusal, counts) => {
-            print_refusal(rt, refusal)?;
-            print_counts(rt, counts)
-        }
+        Answer::Refused(refusal, counts) => println!(rt; "REFUSED {refusal}\n{counts}"),
     }
 }
 
@@ -100,18 +60,15 @@ fn decide(rt: &impl Print, model: &[u8], rule: &[u8]) -> io::Result<()> {
     let mut contexts = [0u64; 4096];
     let mut stem = [0u8; 4096];
     let mut period = [0u8; 2048];
-    let answer = inclusion::decide(
-        model,
-        rule,
-        4096,
-        2048,
-        &mut smallest,
-        &mut largest,
-        &mut links,
-        &mut contexts,
-        &mut stem,
-        &mut period,
-    );
+    let mut lent = Lent {
+        smallest: &mut smallest,
+        largest: &mut largest,
+        links: &mut links,
+        contexts: &mut contexts,
+        stem: &mut stem,
+        period: &mut period,
+    };
+    let answer = inclusion::decide(model, rule, 4096, 2048, &mut lent);
     print(rt, answer, &stem, &period)
 }
 

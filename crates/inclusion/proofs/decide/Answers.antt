@@ -1,24 +1,19 @@
--- `decide` meets its contract. Assumes nothing.
+-- `decide` meets its contract: it stops where a file or what is lent is refused, and else makes the walk. Assumes nothing.
+use Rattle.search.specs.Contract.{contents}
 use Rattle.inclusion.proofs.Loaded.{stopped_right, prepared, walked_right}
 use Rattle.inclusion.proofs.decide.Goals as goal
-
-pub returns-in_default : goal.returns-in_default
-returns-in_default c =
-    let args = c.args in
-    stopped_right args.model.now args.rule.now args.stem_room args.period_room
-    (record { smallest = args.smallest.now; largest = args.largest.now; links = args.links.now; contexts = args.contexts.now; stem = args.stem.now; period = args.period.now })
-    c.load-outset.ensures c.in_default.is c.stopped_by.ensures
 
 pub walk-ending-requires : goal.walk-ending-requires
 walk-ending-requires c =
     let args = c.args in
-    prepared args.model.now args.rule.now args.stem_room args.period_room
-    (record { smallest = args.smallest.now; largest = args.largest.now; links = args.links.now; contexts = args.contexts.now; stem = args.stem.now; period = args.period.now })
-    c.load-outset.ensures c.in-Walks.is
+    prepared args.model.now args.rule.now args.stem_room args.period_room (contents args.lent.now) c.load-loaded.ensures c.in-Ok.is
 
-pub returns : goal.returns
-returns c =
+pub returns-in-Ok-clause-decided : goal.returns-in-Ok-clause-decided
+returns-in-Ok-clause-decided c =
     let args = c.args in
-    walked_right args.model.now args.rule.now args.stem_room args.period_room
-    (record { smallest = args.smallest.now; largest = args.largest.now; links = args.links.now; contexts = args.contexts.now; stem = args.stem.now; period = args.period.now })
-    c.load-outset.ensures c.in-Walks.is c.walk-ending.ensures c.answer_to.ensures
+    walked_right args.model.now args.rule.now args.stem_room args.period_room (contents args.lent.now) c.load-loaded.ensures c.in-Ok.is c.walk-ending.ensures.concluded c.answer_to.ensures
+
+pub returns-in-Err-clause-decided : goal.returns-in-Err-clause-decided
+returns-in-Err-clause-decided c =
+    let args = c.args in
+    stopped_right args.model.now args.rule.now args.stem_room args.period_room (contents args.lent.now) c.load-loaded.ensures c.in-Err.is

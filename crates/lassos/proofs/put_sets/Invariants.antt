@@ -1,11 +1,12 @@
 use mathlib.Core.Path.{◌≡◌}
-use Rattle.lassos.proofs.Pairs.{SetAt}
-use Prim.Native.Nat.{ℕ, ◌≤◌, ◌<◌, ◌-◌}
-use lib.ListN.{length}
+use mathlib.Core.Bool.{true}
+use lib.Dec.{eqb}
+use Prim.Native.Nat.{ℕ, ◌<◌}
+use lib.ListN.{get_or}
+use Rattle.bits.specs.Fields.{link_state}
+use Rattle.automata.specs.Repeated.{repeated}
+use Rattle.covering.specs.Entries.{context_in}
 use Rattle.lassos.proofs.put_sets.Given as goal
 
 abbrev pub invariant-loop-j : goal.invariant-loop-j
-invariant-loop-j l = (l.j ≤ length l.links) × (length l.sets ≡ length l.initial.sets) × ((k : ℕ) → k < l.j → SetAt l.s l.links l.contexts l.sets k)
-
-abbrev pub decreases-loop-j : goal.decreases-loop-j
-decreases-loop-j l = length l.links - l.j
+invariant-loop-j l = (k : ℕ) → k < l.j → eqb (link_state (get_or l.links k 0)) l.s ≡ true → get_or l.sets k 0 ≡ repeated 8 (context_in l.contexts k)

@@ -4,4 +4,4 @@ use Rattle.records.specs.Narrow.{narrow_row}
 use Rattle.records.proofs.narrowed.Given as goal
 
 abbrev pub invariant-loop-x : goal.invariant-loop-x
-invariant-loop-x l = Filled [] (narrow_row l.table) 16 l.rows l.x
+invariant-loop-x l = Filled [] (narrow_row l.table) 16 l.row-items l.x

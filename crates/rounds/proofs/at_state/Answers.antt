@@ -1,61 +1,34 @@
--- `at_state` meets its contract. The loop's invariant: the rounds from k on give what all give, each with few tests, and the tables stay as long as they are. Assumes nothing.
-use Rattle.rounds.proofs.States.{opening_is, round_for, no_rounds, round_count}
-use Rattle.rounds.proofs.Onward.{Stopped, onward_begin, onward_next, onward_stop, onward_done, none_ran, ready_on, tests_more}
-use Rattle.walk.specs.Walk.{rounds_at}
-use Rattle.automata.specs.Loaded.{cell, aut_of}
+-- `at_state` meets its contract. Assumes nothing.
+use mathlib.Core.Path.{sym, ◌∙◌}
 use native.Mathlib.Omega.{arith}
-use mathlib.Core.Path.{refl, sym, ◌∙◌}
-use borrow.Author.Rules.{rules}
-use lib.ListN.{length}
+use Rattle.std.proofs.lemmas.Result.{err_from_is_err_and}
+use Rattle.automata.specs.Loaded.{cell, aut}
+use Rattle.walk.specs.Walk.{rounds_at}
+use Rattle.rounds.proofs.States.{opening_is, round_for, no_rounds, round_count}
+use Rattle.rounds.proofs.Onward.{none_ran, onward, stop, end, tests_more}
 use Rattle.rounds.proofs.at_state.Goals as goal
 
-pub returns-then-not-has16 : goal.returns-then-not-has16
-returns-then-not-has16 c =
+pub returns-then-not-has : goal.returns-then-not-has
+returns-then-not-has c =
     let args = c.args in
-    none_ran (aut_of (cell args.model.now) args.model_head) (aut_of (cell args.rule.now) args.rule_head) args.stems.now args.room
-    (no_rounds (aut_of (cell args.model.now) args.model_head) args.largest.now args.s (opening_is (cell args.model.now) args.model_head args.s ∙ sym c.has16.ensures ∙ c.if-not-has16.true))
-    args.p_before args.t_before
+    let m = args.on.model.now in
+    none_ran _ _ _ _ (no_rounds (aut m) args.largest.now args.s (opening_is (cell m.table) m.head args.s ∙ sym (rw c.from.ensures at c.has.ensures) ∙ c.if-not-has.true)) args.before
 
-pub loop-k-init : goal.loop-k-init
+pub returns-in_err-tally : goal.returns-in_err-tally
 unfolding rounds_at round_for
-loop-k-init c =
-    let args = c.args in
-    (search rules, search rules, refl, refl, refl, onward_begin (aut_of (cell args.model.now) args.model_head) (aut_of (cell args.rule.now) args.rule_head) args.stems.now args.room (round_for (aut_of (cell args.model.now) args.model_head) args.largest.now args.s) (length args.largest.now) args.p_before args.t_before)
+returns-in_err-tally c =
+    let p = err_from_is_err_and c.from_residual.result c.from_residual.ensures.1 in
+    rw (p.1, p.2) (stop c.loop-entry.invariant.left (omega arith) c.in_err-tally.ensures)
 
-pub round-r-requires : goal.round-r-requires
-round-r-requires c =
-    let loop = c.loop-k in record { ready = ready_on c.requires.ready loop.invariant.2 loop.invariant.3 loop.invariant.4 (omega (arith, loop.invariant.1, c.requires.s_bound.1, c.requires.s_bound.2)); s_bound = (c.requires.s_bound.0, sym c.has16.ensures ∙ c.if-not-has16.false) }
-
-pub returns-in_default : goal.returns-in_default
-unfolding rounds_at round_for Stopped
-returns-in_default c =
-    let args = c.args in
-    let loop = c.loop-k in
-    onward_stop (aut_of (cell args.model.now) args.model_head) (aut_of (cell args.rule.now) args.rule_head) args.stems.now args.room (round_for (aut_of (cell args.model.now) args.model_head) args.largest.now args.s) (length args.largest.now) args.p_before args.t_before loop.invariant.5 (omega arith) c.round-r.ensures c.in_default.not-Through
-
-pub overflow_add-k : goal.overflow_add-k
-overflow_add-k c = omega (arith, c.loop-k-test.true, c.requires.s_bound.1)
-
-pub loop-k-smaller : goal.loop-k-smaller
-loop-k-smaller c = omega (arith, c.loop-k-test.true)
-
-pub loop-k-preserved : goal.loop-k-preserved
+pub loop-entry-preserved : goal.loop-entry-preserved
 unfolding round_for
-loop-k-preserved c =
+loop-entry-preserved c =
     let args = c.args in
-    let loop = c.loop-k in
-    let round = c.round-r in
-    let more = tests_more (aut_of (cell args.model.now) args.model_head) (aut_of (cell args.rule.now) args.rule_head) args.stems.now args.room c.requires.ready.stems c.requires.ready.short (round_for (aut_of (cell args.model.now) args.model_head) args.largest.now args.s loop.k) loop.p loop.t 1 round.ensures c.in-Through.is (round_count (aut_of (cell args.model.now) args.model_head) args.largest.now args.s loop.k) in (
-      omega (arith, c.loop-k-test.true),
-      omega (arith, more, loop.invariant.1),
-      search rules,
-      search rules,
-      search rules,
-      onward_next (aut_of (cell args.model.now) args.model_head) (aut_of (cell args.rule.now) args.rule_head) args.stems.now args.room (round_for (aut_of (cell args.model.now) args.model_head) args.largest.now args.s) (length args.largest.now) args.p_before args.t_before loop.invariant.5 c.loop-k-test.true round.ensures c.in-Through.is,
-    )
+    let loop = c.loop-entry in
+    let m = aut args.on.model.now in
+    let more = tests_more m (aut args.on.rule.now) args.on.stems.now args.on.room c.requires.ready.stems c.requires.ready.short (round_for m args.largest.now args.s loop.entry-index) loop.tally.p loop.tally.t 1 c.in_ok-tally.ensures (round_count m args.largest.now args.s loop.entry-index) in
+    record { few = omega (arith, more); left = onward loop.invariant.left (omega arith) c.in_ok-tally.ensures }
 
 pub returns : goal.returns
 unfolding rounds_at round_for
-returns c =
-    let args = c.args in
-    onward_done (aut_of (cell args.model.now) args.model_head) (aut_of (cell args.rule.now) args.rule_head) args.stems.now args.room (round_for (aut_of (cell args.model.now) args.model_head) args.largest.now args.s) (length args.largest.now) args.p_before args.t_before c.loop-k.invariant.5 c.loop-k-test.false
+returns c = end c.loop-entry.invariant.left (omega arith)

@@ -6,7 +6,7 @@ use lib.ListN.{length}
 use Rattle.spelling.proofs.letters.Given as goal
 
 abbrev pub invariant-loop-i : goal.invariant-loop-i
-invariant-loop-i l = (l.end ≡ top_of l.links) × Inside l.links l.table (length l.table) l.i × (l.n + length (spelled l.links l.table l.i) ≡ length (spelled l.links l.table l.entry))
+invariant-loop-i g l = (l.end ≡ top_of g.E.Entry.links) × Inside g.E.Entry.links l.table (length l.table) l.i × (l.n + length (spelled g.E.Entry.links l.table l.i) ≡ length (spelled g.E.Entry.links l.table l.entry))
 
 abbrev pub decreases-loop-i : goal.decreases-loop-i
-decreases-loop-i l = length (spelled l.links l.table l.i)
+decreases-loop-i g l = length (spelled g.E.Entry.links l.table l.i)

@@ -18,56 +18,42 @@ use lib.ListN.{length}
 use Rattle.spelling.proofs.write.Goals as goal
 
 pub slice_bounds-prefix-end : goal.slice_bounds-prefix-end
-slice_bounds-prefix-end c =
-    let word = spelled_word c.args.links c.args.table.now c.requires.backward c.args.entry c.requires.in_bounds in
-    omega (arith, ap length word, spelled_length c.args.links c.args.table.now c.args.entry, c.letters-n.ensures)
+slice_bounds-prefix-end g c =
+    let word = spelled_word g.E.Entry.links c.args.table.now c.requires.backward c.args.entry c.requires.in_bounds in
+    omega (arith, ap length word, spelled_length g.E.Entry.links c.args.table.now c.args.entry, c.letters-n.ensures)
 
 pub loop-i-init : goal.loop-i-init
-loop-i-init c =
+loop-i-init g c =
     let n = c.letters-n.result in
-    let word = spelled_word c.args.links c.args.table.now c.requires.backward c.args.entry c.requires.in_bounds in
-    let same : n ≡ length (spelled c.args.links c.args.table.now c.args.entry) = c.letters-n.ensures ∙ sym (ap length word) in
-    let long : length (take (n - 0) c.args.out.now) ≡ n = length-take-le (n - 0) c.args.out.now (omega (arith, same, spelled_length c.args.links c.args.table.now c.args.entry)) ∙ omega arith in
-    (c.top-end.ensures, inr c.requires.in_bounds, long, same, same, omega arith, ap (λ (z : List ℕ). spelled c.args.links c.args.table.now c.args.entry ++ z) (drop_of_length-le (take (n - 0) c.args.out.now) (le_of_eq long)) ∙ append-nil (spelled c.args.links c.args.table.now c.args.entry))
-
-pub offset_bounds-table-i : goal.offset_bounds-table-i
-offset_bounds-table-i c =
-    let loop = c.loop-i in
-    let up = step c.args.links c.args.table.now c.requires.backward loop.invariant.1 (λ e. c.loop-i-test.true (e ∙ sym loop.invariant.0)) in
-    omega (arith, up.low, c.requires.backward.short)
-
-pub bounds-table-i : goal.bounds-table-i
-bounds-table-i c =
-    let loop = c.loop-i in
-    let up = step c.args.links c.args.table.now c.requires.backward loop.invariant.1 (λ e. c.loop-i-test.true (e ∙ sym loop.invariant.0)) in
-    up.low
+    let word = spelled_word g.E.Entry.links c.args.table.now c.requires.backward c.args.entry c.requires.in_bounds in
+    let same : n ≡ length (spelled g.E.Entry.links c.args.table.now c.args.entry) = c.letters-n.ensures ∙ sym (ap length word) in
+    let long : length (take (n - 0) c.args.out.now) ≡ n = length-take-le (n - 0) c.args.out.now (omega (arith, same, spelled_length g.E.Entry.links c.args.table.now c.args.entry)) ∙ omega arith in
+    (c.top-end.ensures, inr c.requires.in_bounds, long, same, same, omega arith, ap (λ (z : List ℕ). spelled g.E.Entry.links c.args.table.now c.args.entry ++ z) (drop_of_length-le (take (n - 0) c.args.out.now) (le_of_eq long)) ∙ append-nil (spelled g.E.Entry.links c.args.table.now c.args.entry))
 
 pub overflow_sub-last : goal.overflow_sub-last
-overflow_sub-last c =
-    let loop = c.loop-i in
-    let up = step c.args.links c.args.table.now c.requires.backward loop.invariant.1 (λ e. c.loop-i-test.true (e ∙ sym loop.invariant.0)) in
+overflow_sub-last g c =
+    let up = step g.E.Entry.links c.args.table.now c.requires.backward c.loop-i.invariant.1 c.loop-i.invariant.0 c.loop-i-test.true in
     omega (arith, up.count)
 
 pub put_last-requires : goal.put_last-requires
-put_last-requires c =
+put_last-requires g c =
     let loop = c.loop-i in
-    let up = step c.args.links c.args.table.now c.requires.backward loop.invariant.1 (λ e. c.loop-i-test.true (e ∙ sym loop.invariant.0)) in
+    let up = step g.E.Entry.links c.args.table.now c.requires.backward c.loop-i.invariant.1 c.loop-i.invariant.0 c.loop-i-test.true in
     omega (arith, up.count, mid_len (loop.free - 1) loop.free loop.prefix (omega arith))
 
 pub loop-i-smaller : goal.loop-i-smaller
-loop-i-smaller c =
-    let loop = c.loop-i in
-    let up = step c.args.links c.args.table.now c.requires.backward loop.invariant.1 (λ e. c.loop-i-test.true (e ∙ sym loop.invariant.0)) in
+loop-i-smaller g c =
+    let up = step g.E.Entry.links c.args.table.now c.requires.backward c.loop-i.invariant.1 c.loop-i.invariant.0 c.loop-i-test.true in
     omega (arith, up.count)
 
 pub loop-i-preserved : goal.loop-i-preserved
-loop-i-preserved c =
+loop-i-preserved g c =
     let loop = c.loop-i in
-    let up = step c.args.links c.args.table.now c.requires.backward loop.invariant.1 (λ e. c.loop-i-test.true (e ∙ sym loop.invariant.0)) in
+    let up = step g.E.Entry.links c.args.table.now c.requires.backward loop.invariant.1 loop.invariant.0 c.loop-i-test.true in
     let x = c.letter.result in
-    let rest = spelled c.args.links c.args.table.now c.parent-i.result in
-    let same : rest ++ (x ∷ []) ≡ spelled c.args.links c.args.table.now loop.i =
-    ap₂ (λ (p y : ℕ). spelled c.args.links c.args.table.now p ++ (y ∷ [])) c.parent-i.ensures c.letter.ensures ∙ sym up.word in
+    let rest = spelled g.E.Entry.links c.args.table.now c.parent-i.result in
+    let same : rest ++ (x ∷ []) ≡ spelled g.E.Entry.links c.args.table.now loop.i =
+    ap₂ (λ (p y : ℕ). spelled g.E.Entry.links c.args.table.now p ++ (y ∷ [])) c.parent-i.ensures c.letter.ensures ∙ sym up.word in
     let count : loop.free - 1 ≡ length rest = rw c.parent-i.ensures (omega (arith, up.count)) in (
       loop.invariant.0,
       rw c.parent-i.ensures up.up,
@@ -82,12 +68,12 @@ loop-i-preserved c =
     )
 
 pub returns : goal.returns
-returns c =
+returns g c =
     let loop = c.loop-i in
     let n = c.letters-n.result in
-    let top = spelled_top c.args.links c.args.table.now (c.loop-i-test.false ∙ loop.invariant.0) in
-    let word = spelled_word c.args.links c.args.table.now c.requires.backward c.args.entry c.requires.in_bounds in
+    let top = spelled_top g.E.Entry.links c.args.table.now (c.loop-i-test.false ∙ loop.invariant.0) in
+    let word = spelled_word g.E.Entry.links c.args.table.now c.requires.backward c.args.entry c.requires.in_bounds in
     let none : loop.free ≡ 0 = loop.invariant.4 ∙ ap length top in
-    let whole : loop.prefix ≡ spelled c.args.links c.args.table.now c.args.entry =
+    let whole : loop.prefix ≡ spelled g.E.Entry.links c.args.table.now c.args.entry =
     sym (ap₂ (λ (w : List ℕ) (k : ℕ). w ++ drop k loop.prefix) top none) ∙ loop.invariant.6 in
     record { letters = c.letters-n.ensures; bytes = put_front n c.args.out.now loop.prefix (sym loop.invariant.2) ∙ ap (λ (w : List ℕ). over w c.args.out.now) (whole ∙ word) }

@@ -1,27 +1,29 @@
 -- `members::moved` meets its contract. Assumes nothing.
-use mathlib.Core.Logic.{inl, inr}
+use mathlib.Core.Path.{sym, ap, ◌∙◌}
 use native.Mathlib.Omega.{arith}
-use borrow.Author.Rules.{rules}
-use lib.ListN.{get_or}
-use mir.Syntax.{w8}
-use mir.Val.{Fits}
-use Rattle.bits.proofs.Moved.{moved_none, moved_turn, moved_all_lem}
+use Rattle.std.proofs.lemmas.List.{get_or_default}
+use Rattle.bits.specs.Bits.{bit}
+use Rattle.bits.specs.Sets.{by_sets}
+use Rattle.bits.proofs.Moved.{moved_none, moved_taken, moved_passed, moved_all_lem}
 use Rattle.bits.proofs.members.moved.Goals as goal
 use Rattle.bits.proofs.members.moved.Goals.{else-has, then-has}
 
 pub loop-q-init : goal.loop-q-init
-loop-q-init c = (omega arith, moved_none 8 c.args.row c.args.x)
+loop-q-init g c = c.none-out.ensures ∙ moved_none _ _ _
 
 pub loop-q-preserved : goal.loop-q-preserved
-loop-q-preserved c =
-    let loop = c.loop-q in
-    let fits : Fits w8 (get_or c.args.row loop.q 0) = search rules in (
-      omega arith,
-      moved_turn 8 c.args.row c.args.x loop.q fits.fits loop.invariant.1 c.has.ensures
-          (elim c.if-has.branch [ then-has w ↦ inl (w.if-has.true, w.out-is) | else-has w ↦ inr (w.if-has.false, w.out-is) ]),
-    )
+unfolding by_sets
+loop-q-preserved g c =
+    let S = g.S.Set in
+    let q = c.loop-q.q in
+    elim c.if-has.branch [
+      | then-has w ↦
+          let row = w.index-row-q in
+          ap S.bits w.out-is ∙ w.union-out.ensures
+          ∙ moved_taken _ _ _ q (S.bits row.result)
+          (λ i h. ap (λ s. bit (S.bits s) i) (row.is ∙ get_or_default c.args.row.now q _ S.none (omega (arith, c.requires)))) (sym c.has.ensures ∙ w.if-has.true) c.loop-q.invariant
+      | else-has w ↦ ap S.bits w.out-is ∙ c.loop-q.invariant ∙ moved_passed _ _ _ q (sym c.has.ensures ∙ w.if-has.false)
+    ]
 
 pub returns : goal.returns
-returns c =
-    let args = c.args in
-    moved_all_lem 8 args.row args.x c.loop-q.q c.loop-q.invariant.1 (omega arith)
+returns g c = moved_all_lem _ _ _ c.loop-q.q c.loop-q.invariant (omega arith)

@@ -1,7 +1,9 @@
 use mathlib.Core.Path.{◌≡◌}
-use Prim.Native.Nat.{◌≤◌}
+use Rattle.bits.specs.Sets.{by_sets}
 use Rattle.bits.proofs.Moved.{moved_below}
 use Rattle.bits.proofs.members.moved.Given as goal
 
 abbrev pub invariant-loop-q : goal.invariant-loop-q
-invariant-loop-q l = (l.q ≤ 8) × (l.out ≡ moved_below 8 l.row l.x l.q)
+invariant-loop-q g l =
+    let S = g.S.Set in
+    S.bits l.out ≡ moved_below S.WIDTH (by_sets S.bits S.none l.row) (S.bits l.x) l.q

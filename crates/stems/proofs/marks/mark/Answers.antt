@@ -5,17 +5,17 @@ use borrow.Author.Rules.{rules}
 use Rattle.stems.proofs.marks.mark.Goals as goal
 
 pub loop-g-init : goal.loop-g-init
-loop-g-init c = (search rules, c.stem_state-state.ensures, c.stem_target-target.ensures, c.requires, raised_none c.args.largest c.args.entry c.args.marks.now)
+loop-g-init c = (search rules, c.stem_target-target.ensures, c.requires, raised_none c.args.largest c.args.entry c.args.marks.now)
 
 pub loop-g-preserved : goal.loop-g-preserved
 loop-g-preserved c = (
   search rules,
   search rules,
   search rules,
-  search rules,
-  raised_more c.args.largest c.args.entry
-      c.loop-g.g c.loop-g.invariant.4 c.loop-g.invariant.3 (search rules) c.loop-g.invariant.1 c.loop-g.invariant.2 c.covered_from.ensures,
+  rw c.from.ensures
+      (raised_more c.args.largest c.args.entry
+      c.loop-g.g c.loop-g.invariant.3 c.loop-g.invariant.2 (search rules) c.loop-g.invariant.0 c.loop-g.invariant.1 c.covered_from.ensures),
 )
 
 pub returns : goal.returns
-returns c = raised_all _ _ (rw (le_antisymm c.loop-g.invariant.0 c.loop-g-test.false) at c.loop-g.invariant.4)
+returns c = raised_all _ _ (rw (le_antisymm c.loop-g.auto.g-end c.loop-g-test.false) at c.loop-g.invariant.3)

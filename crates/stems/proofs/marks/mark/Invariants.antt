@@ -1,12 +1,8 @@
 use mathlib.Core.Path.{◌≡◌}
 use Rattle.bits.specs.Fields.{stem_state, stem_target}
 use Rattle.stems.proofs.Flags.{RaisedBelow}
-use Prim.Native.Nat.{◌≤◌, ◌-◌}
 use lib.ListN.{length}
 use Rattle.stems.proofs.marks.mark.Given as goal
 
 abbrev pub invariant-loop-g : goal.invariant-loop-g
-invariant-loop-g l = (l.g ≤ 32) × (l.state ≡ stem_state l.entry) × (l.target ≡ stem_target l.entry) × (length l.initial.marks ≡ 512) × RaisedBelow l.g l.largest l.entry l.initial.marks l.marks
-
-abbrev pub decreases-loop-g : goal.decreases-loop-g
-decreases-loop-g l = 32 - l.g
+invariant-loop-g l = (l.state ≡ stem_state l.entry) × (l.target ≡ stem_target l.entry) × (length l.initial.marks ≡ 512) × RaisedBelow l.g l.largest l.entry l.initial.marks l.marks

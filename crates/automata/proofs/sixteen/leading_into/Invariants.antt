@@ -1,9 +1,0 @@
-use mathlib.Core.Path.{◌≡◌}
-use Prim.Native.Nat.{◌≤◌}
-use Rattle.bits.specs.Bits.{set_of}
-use Rattle.automata.specs.Loaded.{listed}
-use Rattle.automata.proofs.Turning.{leads}
-use Rattle.automata.proofs.sixteen.leading_into.Given as goal
-
-abbrev pub invariant-loop-q : goal.invariant-loop-q
-invariant-loop-q l = (l.q ≤ 16) × (l.out ≡ set_of (leads 16 (listed 16 l.paths) l.x) l.q)
