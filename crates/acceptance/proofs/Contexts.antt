@@ -1,5 +1,5 @@
 -- The contexts that grow letter by letter describe their words, and compare as the words do on the rows of a set. Assumes nothing.
-use mathlib.Core.Path.{◌≡◌, ap₂}
+use mathlib.Core.Path.{◌≡◌}
 use mathlib.Core.Bool.{true}
 use mathlib.Core.List.{[], ◌∷◌, ◌++◌}
 use Prim.Native.Nat.{ℕ, ◌*◌, ◌^◌, ◌<◌}
@@ -21,12 +21,6 @@ use Rattle.acceptance.proofs.Passes.{single_through, through_is, through_by_lt}
 pub record Fits (n : ℕ) (c : Context) : Type 0 where
   pub reach_lt : c.reach < 2 ^ (n * n)
   pub through_lt : c.through < 2 ^ (n * n)
-
-pub same_context : {c d : Context} → c.reach ≡ d.reach → c.through ≡ d.through → c ≡ d
-same_context p q = ap₂ of p q
-  where
-    of : ℕ → ℕ → Context
-    of r t = record { reach = r; through = t }
 
 pub describes_nil : (n : ℕ) (B : Aut) → Describes n B (idle n B.final) []
 unfolding idle

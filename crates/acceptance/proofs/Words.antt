@@ -3,23 +3,18 @@
 use mathlib.Core.Path.{◌≡◌, ap}
 use mathlib.Core.List.{[], ◌∷◌, ◌++◌, append-nil, append_assoc}
 use Prim.Native.Nat.{ℕ, ◌+◌, ◌<◌, ◌≤◌}
-use native.Mathlib.Numerals.{add-one}
 use lib.ListN.{length, get_or, drop, drop_of_length-le}
-use lib.Seq.{drop-cons}
+use Rattle.std.proofs.lemmas.List.{drop_more}
 use Rattle.acceptance.specs.Lasso.{Word, Aut}
 use Rattle.acceptance.specs.Contexts.{Small, Context, moved_by, moved_all, longer, longer_all, context_of, Describes}
 use Rattle.acceptance.proofs.Contexts.{describes_nil, describes_snoc}
-
--- what is left of a word is its next letter and what is left after that
-pub drop_next : (w : Word) (i : ℕ) → i < length w → drop i w ≡ get_or w i 0 ∷ drop (i + 1) w
-drop_next w i l = rw add-one (drop-cons w i 0 l)
 
 module _ (n : ℕ) (B : Aut) where
   -- ---- the walk of a set
 
   pub moved_all_next : (s : ℕ) (w : Word) (i : ℕ) → i < length w → moved_all n B s (drop i w) ≡ moved_all n B (moved_by n B s (get_or w i 0)) (drop (i + 1) w)
   unfolding moved_all
-  moved_all_next s w i l = ap (moved_all n B s) (drop_next w i l)
+  moved_all_next s w i l = ap (moved_all n B s) (drop_more w i 0 l)
 
   pub moved_all_end : (s : ℕ) (w : Word) (i : ℕ) → length w ≤ i → moved_all n B s (drop i w) ≡ s
   unfolding moved_all
@@ -29,7 +24,7 @@ module _ (n : ℕ) (B : Aut) where
 
   pub longer_all_next : (c : Context) (w : Word) (i : ℕ) → i < length w → longer_all n B c (drop i w) ≡ longer_all n B (longer n B c (get_or w i 0)) (drop (i + 1) w)
   unfolding longer_all
-  longer_all_next c w i l = ap (longer_all n B c) (drop_next w i l)
+  longer_all_next c w i l = ap (longer_all n B c) (drop_more w i 0 l)
 
   pub longer_all_end : (c : Context) (w : Word) (i : ℕ) → length w ≤ i → longer_all n B c (drop i w) ≡ c
   unfolding longer_all

@@ -1,10 +1,10 @@
 -- What one record says, and what it adds to what the records before it said. Assumes nothing.
-use Rattle.std.specs.Prelude.{not, ◌&&◌, cond, List, [], ℕ, suc, ◌^◌, ◌<◌, max, eqb, ltb, get_or, set, Result, Ok, Err}
+use Rattle.std.specs.Prelude.{◌&&◌, cond, List, [], ℕ, suc, ◌^◌, ◌<◌, max, eqb, ltb, get_or, set, Some, is_some, Result, Ok, Err}
 use Rattle.std.specs.Result.{result_map_both}
 use Rattle.bits.specs.Bits.{bit}
 use Rattle.bits.specs.Sets.{union}
-use Rattle.automata.specs.declared.Head.{Head}
 use Rattle.automata.specs.Loaded.{cell}
+use Rattle.adding.specs.declared.Draft.{Draft}
 use Rattle.adding.specs.declared.Edge.{Edge}
 use Rattle.adding.specs.declared.reason.Reason.{Reason}
 use Rattle.adding.specs.declared.reason.Reason.TheVariants.{UnknownKind, ByteNotZero, PastLimit, ThereAlready}
@@ -34,26 +34,26 @@ Sized (Initial q) = q < 16
 Sized (Accepting q) = q < 16
 Sized (Transition e) = (e.source < 16) × (e.letter < 16) × (e.target < 16)
 
--- the head that comes of one more record, its start 16 until one is named, unless the record was there before
-unfoldable pub initial_step : Head → ℕ → Result Head Reason
-initial_step h q =
-    cond (not (eqb h.start 16)) (Err ThereAlready) (Ok (record { start = q; accepting = h.accepting; states = max h.states (suc q) }))
+-- the draft that comes of one more record, unless the record was there before; its start is None until one is named
+unfoldable pub initial_step : Draft → ℕ → Result Draft Reason
+initial_step d q =
+    cond (is_some d.start) (Err ThereAlready) (Ok (record { start = Some q; accepting = d.accepting; states = max d.states (suc q) }))
 
-unfoldable pub accepting_step : Head → ℕ → Result Head Reason
-accepting_step h q =
-    cond (bit h.accepting q) (Err ThereAlready)
-    (Ok (record { start = h.start; accepting = union 16 h.accepting (2 ^ q); states = max h.states (suc q) }))
+unfoldable pub accepting_step : Draft → ℕ → Result Draft Reason
+accepting_step d q =
+    cond (bit d.accepting q) (Err ThereAlready)
+    (Ok (record { start = d.start; accepting = union 16 d.accepting (2 ^ q); states = max d.states (suc q) }))
 
-unfoldable pub transition_step : List (List ℕ) → Head → Edge → Result Head Reason
-transition_step t h e =
+unfoldable pub transition_step : List (List ℕ) → Draft → Edge → Result Draft Reason
+transition_step t d e =
     cond (bit (cell t e.letter e.source) e.target) (Err ThereAlready)
-    (Ok (record { start = h.start; accepting = h.accepting; states = max h.states (suc (max e.source e.target)) }))
+    (Ok (record { start = d.start; accepting = d.accepting; states = max d.states (suc (max e.source e.target)) }))
 
-abbrev pub step_by : List (List ℕ) → Head → Result Record Reason → Result Head Reason
-step_by t h (Ok (Initial q)) = initial_step h q
-step_by t h (Ok (Accepting q)) = accepting_step h q
-step_by t h (Ok (Transition e)) = transition_step t h e
-step_by t h (Err reason) = Err reason
+abbrev pub step_by : List (List ℕ) → Draft → Result Record Reason → Result Draft Reason
+step_by t d (Ok (Initial q)) = initial_step d q
+step_by t d (Ok (Accepting q)) = accepting_step d q
+step_by t d (Ok (Transition e)) = transition_step t d e
+step_by t d (Err reason) = Err reason
 
 -- the table with a transition: its target is a member of its cell
 unfoldable pub cell_with : List (List ℕ) → Edge → List (List ℕ)

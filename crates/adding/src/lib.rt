@@ -6,7 +6,6 @@ ghost use Rattle.bits.specs.Sets.{union};
 ghost use Rattle.adding.specs.Bytes.{kind_t};
 ghost use Rattle.adding.specs.Steps.{lone_state, record_of, record_at, Sized, initial_step, accepting_step, transition_step, transition_table, step_by, table_by};
 
-use automata::Head;
 use bits::members::Set;
 
 mod reason;
@@ -27,6 +26,14 @@ pub enum Record {
     Initial(u8),
     Accepting(u8),
     Transition(Edge),
+}
+
+// What the records so far say of a head: its start is None until an I names it.
+#[derive(Clone, Copy, Default)]
+pub struct Draft {
+    pub start: Option<u8>,
+    pub accepting: u16,
+    pub states: u8,
 }
 
 // What the bytes of a T say: all three are held to their limits, in any order, since one refusal serves them.
@@ -80,52 +87,53 @@ pub fn record_at(s: &[u8], i: usize, states: u8) -> Result<Record, Reason>
     record_of(s[at], s[at + 1], s[at + 2], s[at + 3], states)
 }
 
-// The set with the member q: bit q is set, the others stay.
+// The set with the member q.
+#[tactic(auto, unfolding(bits::specs::Bits::weight))]
 fn with(set: u16, q: usize) -> u16
     requires { q < 16 }
     ensures { result ≡ union 16 set (2 ^ q) }
 {
-    set | (1u16 << q)
+    set.union(u16::only(q, true))
 }
 
 // What an I adds: the start, unless there is one already.
 #[tactic(auto, unfolding(crate::specs::Steps::initial_step))]
-fn add_initial(head: Head, start: u8) -> Result<Head, Reason>
+fn add_initial(draft: Draft, start: u8) -> Result<Draft, Reason>
     requires { start < 16 }
-    ensures { result ≡ initial_step head start }
+    ensures { result ≡ initial_step draft start }
 {
-    if head.start != 16 {
+    if draft.start.is_some() {
         return Err(Reason::ThereAlready);
     }
-    Ok(Head {
-        start,
-        accepting: head.accepting,
-        states: head.states.max(start + 1),
+    Ok(Draft {
+        start: Some(start),
+        states: draft.states.max(start + 1),
+        ..draft
     })
 }
 
 // What an F adds: a member of the accepting set, unless it is there already.
 #[tactic(auto, unfolding(crate::specs::Steps::accepting_step))]
-fn add_accepting(head: Head, state: u8) -> Result<Head, Reason>
+fn add_accepting(draft: Draft, state: u8) -> Result<Draft, Reason>
     requires { state < 16 }
-    ensures { result ≡ accepting_step head state }
+    ensures { result ≡ accepting_step draft state }
 {
     let member = state as usize;
-    if head.accepting.has(member) {
+    if draft.accepting.has(member) {
         return Err(Reason::ThereAlready);
     }
-    Ok(Head {
-        start: head.start,
-        accepting: with(head.accepting, member),
-        states: head.states.max(state + 1),
+    Ok(Draft {
+        accepting: with(draft.accepting, member),
+        states: draft.states.max(state + 1),
+        ..draft
     })
 }
 
 // What a T adds: a member of its cell, unless it is there already; then the table stays as it is.
 #[tactic(auto, unfolding(crate::specs::Steps::transition_step, crate::specs::Steps::transition_table, crate::specs::Steps::cell_with, automata::specs::Loaded::cell))]
-fn add_transition(table: &mut [[u16; 16]; 16], head: Head, e: Edge) -> Result<Head, Reason>
+fn add_transition(table: &mut [[u16; 16]; 16], draft: Draft, e: Edge) -> Result<Draft, Reason>
     requires { (e.source < 16) × (e.letter < 16) × (e.target < 16) }
-    ensures step { result ≡ transition_step table.old head e }
+    ensures step { result ≡ transition_step table.old draft e }
     ensures table { table.new ≡ transition_table table.old e }
 {
     let x = e.letter as usize;
@@ -136,26 +144,25 @@ fn add_transition(table: &mut [[u16; 16]; 16], head: Head, e: Edge) -> Result<He
         return Err(Reason::ThereAlready);
     }
     table[x][p] = with(old, q);
-    Ok(Head {
-        start: head.start,
-        accepting: head.accepting,
-        states: head.states.max(e.source.max(e.target) + 1),
+    Ok(Draft {
+        states: draft.states.max(e.source.max(e.target) + 1),
+        ..draft
     })
 }
 
 // What a record adds, by its kind. One that is wrong by itself is refused so, and adds nothing.
 pub fn add(
     table: &mut [[u16; 16]; 16],
-    head: Head,
+    draft: Draft,
     said: Result<Record, Reason>,
-) -> Result<Head, Reason>
+) -> Result<Draft, Reason>
     requires { IfOk said Sized }
-    ensures step { result ≡ step_by table.old head said }
+    ensures step { result ≡ step_by table.old draft said }
     ensures table { table.new ≡ table_by table.old said }
 {
     match said? {
-        Record::Initial(q) => add_initial(head, q),
-        Record::Accepting(q) => add_accepting(head, q),
-        Record::Transition(e) => add_transition(table, head, e),
+        Record::Initial(q) => add_initial(draft, q),
+        Record::Accepting(q) => add_accepting(draft, q),
+        Record::Transition(e) => add_transition(table, draft, e),
     }
 }

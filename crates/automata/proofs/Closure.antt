@@ -2,7 +2,8 @@
 use mathlib.Core.Bool.{Bool, true, ◌&&◌, ◌||◌}
 use mathlib.Core.Logic.{◌↔◌}
 use mathlib.Core.Path.{◌≡◌, sym, ap, ◌∙◌}
-use Prim.Native.Nat.{ℕ, suc, ◌*◌, ◌^◌, ◌<◌}
+use Prim.Native.Nat.{ℕ, suc, ◌+◌, ◌*◌, ◌^◌, ◌<◌}
+use native.Mathlib.Numerals.{add-one}
 use lib.Dec.{eqb}
 use Rattle.bits.specs.Bits.{bit, weight}
 use Rattle.bits.specs.Sets.{union}
@@ -13,6 +14,18 @@ use Rattle.bits.proofs.Pairs.{bit_row, row_pairs}
 use Rattle.acceptance.proofs.Membership.{by_row}
 use Rattle.acceptance.proofs.Warshall.{Reaches, reaches_stage, stage_reaches}
 use Rattle.automata.specs.Repeated.{led_on, via, paths_over, closure}
+
+-- ---- the loop over the states on the way
+
+pub paths_more : (n r k : ℕ) → paths_over n r (k + 1) ≡ via n (paths_over n r k) k
+unfolding paths_over
+paths_more n r k = rw add-one
+
+pub paths_all : (n r k : ℕ) → k ≡ n → paths_over n r k ≡ closure n r
+unfolding closure
+paths_all n r k e = ap (paths_over n r) e
+
+-- ---- what its stages reach
 
 module _ (n : ℕ) where
   bit_union : (x y q : ℕ) → q < n → bit (union n x y) q ≡ (bit x q || bit y q)

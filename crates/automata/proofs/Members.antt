@@ -8,12 +8,10 @@ use borrow.Author.Tests.{eqb-true}
 use lib.Bits.{bit_and, bit_or, and_mask, and_le_r, or_shifted_r}
 use lib.Dec.{eqb}
 use lib.Pow.{pow-lt}
-use mir.Syntax.{Width}
-use mir.Val.{Fits, bool_byte}
 use Rattle.bits.specs.Bits.{digit, pack, bit, weight, set_of}
 use Rattle.bits.proofs.Truth.{bool_same, and_left, and_right, and_both}
 use Rattle.bits.proofs.Bits.{digit_bit, bit_ext, set_of_lt}
-use Rattle.bits.proofs.Operations.{bit_and_lem, bit_power, weighed_lt, bit_weighed, shifted_weight}
+use Rattle.bits.proofs.Operations.{bit_and_lem, bit_power, weighed_lt, bit_weighed}
 
 -- ---- taken out
 
@@ -21,10 +19,6 @@ use Rattle.bits.proofs.Operations.{bit_and_lem, bit_power, weighed_lt, bit_weigh
 pub and_lowest : (x : ℕ) → bit_and x 1 ≡ weight (bit x 0)
 unfolding digit
 and_lowest x = and_mask x 1 ∙ ap (λ (y : ℕ). y % 2) (sym (div-one x)) ∙ digit_bit x 0
-
--- `(x & 1) * y`
-pub lowest_times_fits : {w : Width} {y : ℕ} → Fits w y → (x : ℕ) → Fits w (bit_and x 1 * y)
-lowest_times_fits h x = record { fits = rw (and_lowest x) (weighed_lt (bit x 0) h.fits) }
 
 -- q alone, if it is a member
 pub and_power : (n x q : ℕ) → q < n → bit_and x (2 ^ q) ≡ weight (bit x q) * 2 ^ q
@@ -52,8 +46,3 @@ shifted_one n q h = ap (λ (y : ℕ). y % 2 ^ n) (one-mul (2 ^ q)) ∙ mod-eq_of
 pub put_in : (f : ℕ → Bool) (q : ℕ) → bit_or (set_of f q) (weight (f q) * 2 ^ q) ≡ set_of f (q + 1)
 unfolding set_of pack
 put_in f q = or_shifted_r (weight (f q)) q (set_of f q) (set_of_lt f q) ∙ rw add-one
-
--- the test of q as a truth value, shifted to its place
-pub shifted_more : (n : ℕ) (f : ℕ → Bool) (q : ℕ) {b : Bool} → q < n → b ≡ f q → bit_or (set_of f q) (bool_byte b * 2 ^ q % 2 ^ n) ≡ set_of f (q + 1)
-shifted_more n f q {b} l e =
-    ap (bit_or (set_of f q)) (shifted_weight n b q l ∙ ap (λ (c : Bool). weight c * 2 ^ q) e) ∙ put_in f q

@@ -39,7 +39,7 @@ module _ (n by : ℕ) where
       at : (b : Bool) → bit x p ≡ b → union n (moved_below n (pair n by) x p) (weight b * row n by p) ≡ moved_below n (pair n by) x (p + 1)
       at true e =
           ap (union n (moved_below n (pair n by) x p)) (one-mul (row n by p))
-          ∙ moved_taken n (pair n by) x p (row n by p) (λ i h. bit_row n by p i h) e refl
+          ∙ moved_taken n (pair n by) x p (row n by p) (λ i h. bit_row n by p i h) e
       at false e =
           ap (union n (moved_below n (pair n by) x p)) (zero-mul (row n by p))
           ∙ union_none n (moved_below n (pair n by) x p) (moved_below_lt n (pair n by) x p) ∙ moved_passed n (pair n by) x p e
@@ -60,11 +60,11 @@ module _ (n by : ℕ) where
       (λ q m. ap₂ (union n) (row_pairs n (λ q. moved_below n (pair n by) (row n c q) p) q (λ q m. moved_below_lt n (pair n by) (row n c q) p) m)
       (ap (λ (b : Bool). weight b * row n by p) (sym (bit_row n c q p h))) ∙ moved_below_more (row n c q) p)
 
-  pub rows_below_all : (c : ℕ) → rows_below c n ≡ moved_rows n by c
+  pub rows_below_all : (c p : ℕ) → p ≡ n → rows_below c p ≡ moved_rows n by c
   unfolding rows_below
-  rows_below_all c =
-      pairs_cong n (λ q. moved_below n (pair n by) (row n c q) n) (λ q. moved n (pair n by) (row n c q))
-      (λ q h. moved_all_lem n (pair n by) (row n c q) n refl refl)
+  rows_below_all c p e =
+      pairs_cong n (λ q. moved_below n (pair n by) (row n c q) p) (λ q. moved n (pair n by) (row n c q))
+      (λ q h. moved_all_lem n (pair n by) (row n c q) p e)
 
   -- where all rows are empty there is nothing to move
   pub rows_none : {c : ℕ} → c ≡ 0 → 0 ≡ moved_rows n by c
@@ -74,3 +74,6 @@ module _ (n by : ℕ) where
       (λ q h. row_zero n q
       ∙ set_of_is (moves_to (pair n by) (row n c q) n) n 0 (pow_pos n)
       (λ i l. bit_zero i ∙ sym (any_none _ n (λ p m. rw (e, row_zero, bit_zero)))))
+
+-- what the loop over the states rests on
+pub ruleset state_by_state = (rows_below_none, rows_below_more, rows_below_all)

@@ -105,9 +105,6 @@ module _ (n : ℕ) where
     column_times : bit_and (c / 2 ^ p) (pairs n (λ q. 1)) * y ≡ pairs n (λ q. weight (pair n c q p) * y)
     column_times = ap (λ (x : ℕ). x * y) column ∙ times_pairs (λ q. weight (pair n c q p)) y
 
-    pub column_times_lt : bit_and (c / 2 ^ p) (pairs n (λ q. 1)) * y < 2 ^ (n * n)
-    column_times_lt = rw column_times (pairs_lt n (λ q. weight (pair n c q p) * y) (λ q h. weighed_lt (pair n c q p) l))
-
     pub led_on_lem : (r : ℕ) → r < 2 ^ (n * n) → bit_or r (bit_and (c / 2 ^ p) (pairs n (λ q. 1)) * y) ≡ led_on n r c p y
     unfolding led_on
     led_on_lem r m = ap (bit_or r) column_times ∙ or_rows r (λ q. weight (pair n c q p) * y) m (λ q h. weighed_lt (pair n c q p) l)

@@ -10,6 +10,7 @@ use crate::relations::Relation;
 use bits::members::Set;
 
 // c, each of its rows moved by the step that the pairs of `by` are: one state after the other, for all rows at once.
+#[tactic(auto, using(crate::proofs::Moving::state_by_state))]
 pub(crate) fn moved_rows<R: Relation>(by: R, c: R) -> R
     ensures { R.packed result ≡ moved_rows R.Row.WIDTH (R.packed by) (R.packed c) }
 {
@@ -30,6 +31,7 @@ fn via<R: Relation>(r: R, k: usize) -> R
 }
 
 // Where pairs of r lead, none or more: each state to itself, then with one state more on the way, after the other.
+#[tactic(auto, using(crate::proofs::Closure::paths_more, crate::proofs::Closure::paths_all))]
 fn closure<R: Relation>(r: R) -> R
     ensures { R.packed result ≡ closure R.Row.WIDTH (R.packed r) }
 {
@@ -41,6 +43,7 @@ fn closure<R: Relation>(r: R) -> R
 }
 
 // The states from which a pair of `through` leads to one from which paths lead back: those that a pair and then paths lead to themselves.
+#[tactic(auto, using(crate::proofs::Turning::one_by_one))]
 fn turning<R: Relation>(paths: R, through: R) -> R::Row
     ensures { R.Row.bits result ≡ turning R.Row.WIDTH (R.packed paths) (R.packed through) }
 {
@@ -53,6 +56,7 @@ fn turning<R: Relation>(paths: R, through: R) -> R::Row
 }
 
 // The states from which paths lead into x: their rows meet x.
+#[tactic(auto, using(crate::proofs::Turning::one_by_one))]
 fn leading_into<R: Relation>(paths: R, x: R::Row) -> R::Row
     ensures { R.Row.bits result ≡ leading_into R.Row.WIDTH (R.packed paths) (R.Row.bits x) }
 {

@@ -106,25 +106,25 @@ impl Relation for [u16; 16] {
 
     // To row q comes y, times bit p of row q of c.
     fn led_on(self, c: [u16; 16], p: usize, y: u16) -> [u16; 16] {
-        let mut out: [u16; 16] = [0; 16];
-        for q in 0..16usize {
-            out[q] = self[q] | (((c[q] >> p) & 1) * y);
+        let mut out = self;
+        for (q, row) in out.iter_mut().enumerate() {
+            *row |= ((c[q] >> p) & 1) * y;
         }
         out
     }
 
     fn met(self, reach: [u16; 16], accepting: u16) -> [u16; 16] {
-        let mut out: [u16; 16] = [0; 16];
-        for q in 0..16usize {
-            out[q] = self[q] | (reach[q] & accepting);
+        let mut out = self;
+        for (q, row) in out.iter_mut().enumerate() {
+            *row |= reach[q] & accepting;
         }
         out
     }
 
     fn with_itself(self) -> [u16; 16] {
-        let mut out: [u16; 16] = [0; 16];
-        for q in 0..16usize {
-            out[q] = self[q] | (1 << q);
+        let mut out = self;
+        for (q, row) in out.iter_mut().enumerate() {
+            *row |= 1 << q;
         }
         out
     }

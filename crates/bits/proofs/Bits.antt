@@ -86,11 +86,8 @@ pub set_of_bits : (n x : ℕ) → x < 2 ^ n → set_of (bit x) n ≡ x
 set_of_bits n x l = sym (set_of_is (bit x) n x l (λ i h. refl))
 
 -- what x has below n
-pub mod_set_of : (n x : ℕ) → x % 2 ^ n ≡ set_of (bit x) n
-mod_set_of n x = set_of_is (bit x) n (x % 2 ^ n) (mod-lt x (pow_pos n)) (λ i h. bit_mod x n i h)
-
-pub set_of_own : (n x : ℕ) → x < 2 ^ n → x ≡ set_of (bit x) n
-set_of_own n x l = sym (set_of_bits n x l)
+pub set_of_low : (n x : ℕ) → set_of (bit x) n ≡ x % 2 ^ n
+set_of_low n x = sym (set_of_is (bit x) n (x % 2 ^ n) (mod-lt x (pow_pos n)) (λ i h. bit_mod x n i h))
 
 pub bit_ext : (n x y : ℕ) → x < 2 ^ n → y < 2 ^ n → ((i : ℕ) → i < n → bit x i ≡ bit y i) → x ≡ y
 bit_ext n x y l m same = set_of_is (bit y) n x l same ∙ set_of_bits n y m

@@ -1,22 +1,22 @@
 -- Containment on the rows of a set, and the machine's test of it, over the width. Assumes nothing.
 use mathlib.Core.Bool.{Bool, true, false, not, ◌&&◌, ◌||◌}
-use mathlib.Core.Path.{◌≡◌, sym, ap, ◌∙◌, subst}
+use mathlib.Core.Path.{◌≡◌, refl, sym, ap, ◌∙◌, subst}
 use Prim.Native.Nat.{ℕ, zero, suc, ◌+◌, ◌-◌, ◌*◌, ◌/◌, ◌%◌, ◌^◌, ◌<◌}
 use native.Mathlib.Nat.{mod-lt, mul_comm, sub-zero, div-add-mod, div-lt_iff_lt-mul, zero-mul, one-mul}
 use native.Mathlib.Omega.{arith}
 use lib.Arith.{digits_lt}
-use lib.Bits.{bit_and}
+use lib.Bits.{bit_and, bit_or}
 use lib.Dec.{eqb}
 use lib.Pow.{pow_pos, ones_lt}
-use Rattle.bits.specs.Bits.{bit, weight}
+use Rattle.bits.specs.Bits.{pack, bit, weight}
 use Rattle.bits.specs.Sets.{subset}
-use Rattle.bits.specs.Pairs.{pair, row, rows_of, contained_on}
+use Rattle.bits.specs.Pairs.{pair, row, pairs, rows_of, contained_on}
 use Rattle.bits.proofs.Truth.{bool_same, and_left, and_right, and_both, implies, implied}
 use Rattle.bits.proofs.Quantifiers.{all_intro, all_elim}
 use Rattle.bits.proofs.Bits.{bit_zero}
-use Rattle.bits.proofs.Operations.{bit_and_lem, bit_not}
+use Rattle.bits.proofs.Operations.{lowest_weight, bit_and_lem, bit_not}
 use Rattle.bits.proofs.Sets.{subset_intro, subset_elim, subset_self, subset_apart}
-use Rattle.bits.proofs.Pairs.{bit_row, row_pairs}
+use Rattle.bits.proofs.Pairs.{bit_row, row_pairs, row_added}
 
 -- ---- the rows of a set
 
@@ -34,7 +34,7 @@ unfolding weight
 bit_full n true q h = rw (one-mul, ← sub-zero (2 ^ n - 1)) (bit_not 0 n q (pow_pos n) h ∙ ap not (bit_zero q))
 bit_full n false q h = rw zero-mul (bit_zero q)
 
-pub full_row_lt : (n x q : ℕ) → full_row n x q < 2 ^ n
+full_row_lt : (n x q : ℕ) → full_row n x q < 2 ^ n
 unfolding full_row
 full_row_lt n x q = full_lt n (bit x q)
 
@@ -44,6 +44,28 @@ unfolding rows_of full_row
 pair_rows_of n x q q' h h' =
     sym (bit_row n (rows_of n x) q q' h') ∙ ap (λ (y : ℕ). bit y q') (row_pairs n (full_row n x) q (λ p l. full_row_lt n x p) h)
     ∙ bit_full n (bit x q) q' h'
+
+-- ---- the loop that puts the rows of x one above the other
+
+-- those below q
+unfoldable pub full_below : ℕ → ℕ → ℕ → ℕ
+full_below n x q = pack (2 ^ n) (full_row n x) q
+
+pub full_none : (n x : ℕ) → full_below n x 0 ≡ 0
+unfolding full_below pack
+full_none n x = refl
+
+pub full_more : (n x q : ℕ) → q < n
+    → full_below n x (q + 1) ≡ bit_or (full_below n x q) (bit_and (x / 2 ^ q) 1 * (2 ^ n - 1) * 2 ^ (n * q) % 2 ^ (n * n))
+unfolding full_below full_row
+full_more n x q l = rw lowest_weight (sym (row_added n (full_row n x) q (λ p h. full_row_lt n x p) l))
+
+pub full_all : (n x q : ℕ) → q ≡ n → full_below n x q ≡ rows_of n x
+unfolding full_below full_row rows_of pairs
+full_all n x q e = ap (pack (2 ^ n) (full_row n x)) e
+
+-- what that loop rests on
+pub ruleset row_by_row = (full_none, full_more, full_all)
 
 -- ---- containment, row by row
 

@@ -1,17 +1,13 @@
 -- Numbers by their digits, to any base: a number below c ^ n is known by its n digits. Assumes nothing.
-use mathlib.Core.Logic.{◌⊎◌, inl, inr, ⊎_elim}
+use mathlib.Core.Logic.{⊎_elim}
 use mathlib.Core.Path.{◌≡◌, refl, sym, ap, ap₂, ◌∙◌}
-use Prim.Native.Nat.{ℕ, zero, suc, ◌+◌, ◌-◌, ◌*◌, ◌/◌, ◌%◌, ◌^◌, ◌≤◌, ◌<◌, zero-le, suc-le-suc}
+use Prim.Native.Nat.{ℕ, zero, suc, ◌+◌, ◌-◌, ◌*◌, ◌/◌, ◌%◌, ◌^◌, ◌≤◌, ◌<◌}
 use native.Mathlib.Nat.{pow-zero, pow-suc, pow-succ', one-le-pow, pow-le-pow_right, div-div-eq-div-mul, div-eq_of_lt, mod-lt, mod-eq_of_lt, mod-mod_of_dvd, dvd-mul_left, eq-or-lt_of_le, le_of_suc-le-suc, lt_of_lt_of_le, zero-lt-suc}
 use native.Mathlib.Omega.{arith}
 use lib.Arith.{digits_lt, digits_div, digits_mod, mod-mul, lt-one}
 use lib.Pow.{pow-add}
+pub use Rattle.std.proofs.lemmas.Bool.{cases_lt as lt_or_ge}
 use Rattle.bits.specs.Bits.{digit, pack}
-
-pub lt_or_ge : (i k : ℕ) → (i < k) ⊎ (k ≤ i)
-lt_or_ge i zero = inr zero-le
-lt_or_ge zero (suc k) = inl (suc-le-suc zero-le)
-lt_or_ge (suc i) (suc k) = ⊎_elim (λ l. inl (suc-le-suc l)) (λ l. inr (suc-le-suc l)) (lt_or_ge i k)
 
 -- ---- packed numbers
 

@@ -1,7 +1,6 @@
--- A stem entry and a period link are read back field by field, and each `|` appends a field. Assumes nothing.
+-- A stem entry and a period link are read back field by field. Assumes nothing.
 use mathlib.Core.Path.{◌≡◌}
-use Prim.Native.Nat.{ℕ, ◌+◌, ◌*◌, ◌^◌, ◌<◌}
-use lib.Bits.{bit_or, or_shifted}
+use Prim.Native.Nat.{ℕ, ◌<◌}
 use native.Mathlib.Omega.{arith}
 use Rattle.bits.specs.Fields.{stem_entry, stem_target, stem_state, stem_letter, stem_parent, period_link, link_state, link_letter, link_parent}
 
@@ -27,7 +26,3 @@ module _ (state letter parent : ℕ) (s : state < 16) (l : letter < 16) where
 
   pub link_parent_lem : link_parent (period_link state letter parent) ≡ parent
   link_parent_lem = omega arith
-
--- `x | b` appends the field b of k bits, where the k low bits of x are clear
-pub or_field : (x a k b : ℕ) → x ≡ a * 2 ^ k → b < 2 ^ k → bit_or x b ≡ x + b
-or_field x a k b e l = rw e (or_shifted a k b l)

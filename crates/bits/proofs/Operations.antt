@@ -3,14 +3,14 @@ use mathlib.Core.Bool.{Bool, true, false, not, ◌&&◌, ◌||◌}
 use mathlib.Core.Logic.{⊎_elim}
 use mathlib.Core.Path.{◌≡◌, refl, sym, ap, ap₂, ◌∙◌}
 use Prim.Native.Nat.{ℕ, zero, suc, ◌+◌, ◌-◌, ◌*◌, ◌/◌, ◌%◌, ◌^◌, ◌≤◌, ◌<◌, zero-le, suc-le-suc}
-use native.Mathlib.Nat.{lt_of_le_of_lt, zero-mul, one-mul, pow-suc, mod-eq_of_lt}
+use native.Mathlib.Nat.{zero-mul, one-mul, pow-suc, mod-eq_of_lt}
 use native.Mathlib.Omega.{arith}
-use lib.Bits.{bit_and, bit_or, and_le_r, and_mask, and_shr, or_shr, and_mod, or_mod}
+use lib.Bits.{bit_and, bit_or, and_mask, and_shr, or_shr, and_mod, or_mod}
 use lib.Dec.{eqb, lit<, eqb-zero-suc}
+use Rattle.std.proofs.lemmas.Grind.{low_zeros}
 use lib.Pow.{pow-lt}
 use borrow.Author.Tests.{eqb-true, eq-eqb, ne_eqb}
-use mir.Syntax.{Width}
-use mir.Val.{Fits, bits, bool_byte}
+use mir.Val.{bool_byte}
 use Rattle.bits.specs.Bits.{digit, pack, bit, weight, set_of}
 use Rattle.bits.proofs.Truth.{bool_same}
 use Rattle.bits.proofs.Digits.{lt_or_ge}
@@ -58,10 +58,6 @@ bit_and_lem = bit_op bit_and ◌&&◌ and_shr and_mod and_weights
 
 pub bit_or_lem : (a b i : ℕ) → bit (bit_or a b) i ≡ (bit a i || bit b i)
 bit_or_lem = bit_op bit_or ◌||◌ or_shr or_mod or_weights
-
--- `(x & m) as` a type that holds m
-pub mask_fits : {w : Width} (x : ℕ) {m : ℕ} → m < 2 ^ bits w → Fits w (bit_and x m)
-mask_fits x {m} l = record { fits = lt_of_le_of_lt (and_le_r x m) l }
 
 -- ---- the machine's `!`
 
@@ -120,11 +116,11 @@ bit_weighed false y i = ap (λ (x : ℕ). bit x i) (zero-mul y) ∙ bit_zero i
 -- ---- a test as a truth value
 
 -- `b as` a number
-pub as_weight : (b : Bool) → bool_byte b ≡ weight b
+as_weight : (b : Bool) → bool_byte b ≡ weight b
 unfolding weight
 as_weight true = refl
 as_weight false = refl
 
--- shifted to the place q
-pub shifted_weight : (n : ℕ) (b : Bool) (q : ℕ) → q < n → bool_byte b * 2 ^ q % 2 ^ n ≡ weight b * 2 ^ q
-shifted_weight n b q l = ap (λ (x : ℕ). x * 2 ^ q % 2 ^ n) (as_weight b) ∙ mod-eq_of_lt (weighed_lt b (pow-lt l))
+-- shifted to the place q, where `suc m` is 2 to the width, as a written-out number
+pub shifted_weight : (b : Bool) (q m : ℕ) → suc m ≡ 2 ^ low_zeros 128 (suc m) → q < low_zeros 128 (suc m) → bool_byte b * 2 ^ q % suc m ≡ weight b * 2 ^ q
+shifted_weight b q m e l = rw (as_weight, e) (mod-eq_of_lt (weighed_lt b (pow-lt l)))

@@ -28,9 +28,9 @@ module _ (n : ℕ) where
   bit_row c q q' h = rw row_weight (bit_mod (c / 2 ^ (n * q)) n q' h ∙ bit_shr c (n * q) q')
 
   -- `(c >> n q) & (2 ^ n - 1)`
-  pub row_shifted : (c q : ℕ) → bit_and (c / 2 ^ (n * q)) (2 ^ n - 1) ≡ row n c q
+  pub row_shifted : (c q : ℕ) → row n c q ≡ bit_and (c / 2 ^ (n * q)) (2 ^ n - 1)
   unfolding row digit
-  row_shifted c q = rw row_weight (and_mask (c / 2 ^ (n * q)) n)
+  row_shifted c q = rw row_weight (sym (and_mask (c / 2 ^ (n * q)) n))
 
   pub pairs_lt : (f : ℕ → ℕ) → ((q : ℕ) → q < n → f q < 2 ^ n) → pairs n f < 2 ^ (n * n)
   unfolding pairs
@@ -51,12 +51,12 @@ module _ (n : ℕ) where
 
 -- ---- the loop over the rows
 
--- row q, y, is put above the rows below it, as `out | (y << n q)`
-pub row_added : (n : ℕ) (f : ℕ → ℕ) (q y : ℕ) → ((p : ℕ) → p < n → f p < 2 ^ n) → q < n → y ≡ f q
-    → bit_or (pack (2 ^ n) f q) (y * 2 ^ (n * q) % 2 ^ (n * n)) ≡ pack (2 ^ n) f (q + 1)
+-- row q is put above the rows below it, as `out | (f q << n q)`
+pub row_added : (n : ℕ) (f : ℕ → ℕ) (q : ℕ) → ((p : ℕ) → p < n → f p < 2 ^ n) → q < n
+    → bit_or (pack (2 ^ n) f q) (f q * 2 ^ (n * q) % 2 ^ (n * n)) ≡ pack (2 ^ n) f (q + 1)
 unfolding pack
-row_added n f q y l h e =
-    ap (bit_or below) (ap (λ (z : ℕ). z * 2 ^ (n * q) % 2 ^ (n * n)) e ∙ shl_exact n (n * q) (n * n) (l q h) fits)
+row_added n f q l h =
+    ap (bit_or below) (shl_exact n (n * q) (n * n) (l q h) fits)
     ∙ or_shifted_r (f q) (n * q) below (rw row_weight at (pack_lt (2 ^ n) f q (λ p m. l p (lt_trans m h))))
     ∙ rw (add-one, row_weight)
   where

@@ -11,8 +11,8 @@ use Rattle.bits.specs.Bits.{bit, any, all}
 use Rattle.bits.specs.Sets.{SetIs, subset, union, meet, meets}
 use Rattle.bits.proofs.Truth.{bool_same, and_left, and_right, and_both, implies, implied}
 use Rattle.bits.proofs.Quantifiers.{any_intro, any_elim, any_cong, all_intro, all_elim, all_cong, not_any}
-use Rattle.bits.proofs.Bits.{bit_zero, bit_ext, set_of_is, set_of_own}
-use Rattle.bits.proofs.Operations.{bit_and_lem, bit_or_lem, bit_not, lowest_bit}
+use Rattle.bits.proofs.Bits.{bit_zero, bit_ext, set_of_is, set_of_low}
+use Rattle.bits.proofs.Operations.{bit_and_lem, bit_or_lem, bit_not, lowest_bit, shifted_weight}
 
 -- ---- subsets
 
@@ -110,4 +110,4 @@ module _ (n : ℕ) {x y : ℕ} {P Q : ℕ → Type 0} (isP : SetIs n x P) (isQ :
       isQ.only q w.0 (subset_elim n x y q e w.0 w.1)
 
 -- what the methods of a set in a word rest on
-pub ruleset of_word = (lowest_bit, union_or, meets_test, set_of_own)
+pub ruleset of_word = (lowest_bit, shifted_weight, union_or, meets_test, set_of_low)

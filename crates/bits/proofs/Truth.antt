@@ -1,7 +1,7 @@
--- Truth values, and results that one equation allows. Assumes nothing.
+-- Truth values, std's laws of them among these, and results that one equation allows. Assumes nothing.
 use mathlib.Core.Bool.{Bool, true, false, not, ◌&&◌, ◌||◌, false≢true}
-use mathlib.Core.Logic.{◌⊎◌, inl, inr}
-use mathlib.Core.Path.{◌≡◌, refl, sym, ap, ap₂, ◌∙◌}
+use mathlib.Core.Path.{◌≡◌, refl, sym, ◌∙◌}
+pub use Rattle.std.proofs.lemmas.Bool.{or_left, or_right, or_cases, and_from as and_both, false_from_ne_true as false_from}
 
 -- two results that a contract by equation allows coincide
 pub coincide : {A : Type 0} {x y d : A} → x ≡ d → y ≡ d → x ≡ y
@@ -13,10 +13,6 @@ bool_same true b f g = sym (f refl)
 bool_same false true f g = g refl
 bool_same false false f g = refl
 
-pub false_from : (a : Bool) → (a ≡ true → ⊥) → a ≡ false
-false_from true f = absurd (f refl)
-false_from false f = refl
-
 pub and_left : (a b : Bool) → (a && b) ≡ true → a ≡ true
 and_left true b e = refl
 and_left false b e = e
@@ -24,20 +20,6 @@ and_left false b e = e
 pub and_right : (a b : Bool) → (a && b) ≡ true → b ≡ true
 and_right true b e = e
 and_right false b e = absurd (false≢true e)
-
-pub and_both : (a b : Bool) → a ≡ true → b ≡ true → (a && b) ≡ true
-and_both a b p q = ap₂ ◌&&◌ p q
-
-pub or_left : (a b : Bool) → a ≡ true → (a || b) ≡ true
-or_left a b p = ap (λ (x : Bool). x || b) p
-
-pub or_right : (a b : Bool) → b ≡ true → (a || b) ≡ true
-or_right true b q = refl
-or_right false b q = q
-
-pub or_cases : (a b : Bool) → (a || b) ≡ true → (a ≡ true) ⊎ (b ≡ true)
-or_cases true b e = inl refl
-or_cases false b e = inr e
 
 -- `not a || b` says that a gives b
 pub implies : (a b : Bool) → (not a || b) ≡ true → a ≡ true → b ≡ true

@@ -2,7 +2,7 @@
 use mathlib.Core.List.{List, [], ◌∷◌, ◌++◌}
 use mathlib.Core.Logic.{⊎_elim}
 use mathlib.Core.Path.{◌≡◌, refl, sym, ap, ap₂, ◌∙◌}
-use Prim.Native.Nat.{ℕ, zero, suc, ◌+◌, ◌≤◌, ◌<◌}
+use Prim.Native.Nat.{ℕ, zero, suc, ◌+◌, ◌<◌}
 use native.Mathlib.Decide.{ℕ_discrete}
 use native.Mathlib.Nat.{eq-or-lt_of_le, le_of_suc-le-suc}
 use native.Mathlib.Omega.{arith}
@@ -53,17 +53,15 @@ module _ {A : Type 0} where
   -- ---- a loop that fills an array of n elements from the front: those below q are there
 
   pub record Filled (d : A) (f : ℕ → A) (n : ℕ) (out : List A) (q : ℕ) : Type 0 where
-    pub within : q ≤ n
     pub long : length out ≡ n
     pub below : (i : ℕ) → i < q → get_or out i d ≡ f i
 
   pub filled_none : (d : A) (f : ℕ → A) (n : ℕ) (out : List A) → length out ≡ n → Filled d f n out 0
-  filled_none d f n out l = record { within = omega arith; long = l; below = λ i h. absurd (omega arith) }
+  filled_none d f n out l = record { long = l; below = λ i h. absurd (omega arith) }
 
   pub filled_more : (d : A) (f : ℕ → A) (n : ℕ) (out : List A) (q : ℕ) (y : A) → Filled d f n out q → q < n → y ≡ f q → Filled d f n (set out q y) (q + 1)
   filled_more d f n out q y fill h e =
       record {
-        within = omega arith;
         long = length-set out q y ∙ fill.long;
         below = λ i l. set_at out q y d f (omega (arith, fill.long)) e i (λ (ne : i ≡ q → ⊥). fill.below i (omega arith)) (ℕ_discrete i q);
       }

@@ -17,7 +17,7 @@ pub fn stem_entry(target: u8, state: u8, letter: u8, parent: u16) -> u32
     requires letter_bound { letter < 16 }
     ensures { result ≡ stem_entry target state letter parent }
 {
-    ((parent as u32) << 16) | ((letter as u32) << 12) | ((state as u32) << 8) | (target as u32)
+    ((parent as u32) << 16) | (((letter as u32) << 12) | (((state as u32) << 8) | (target as u32)))
 }
 
 // The set of B states of a stem entry, its lowest 8 bits.
@@ -54,7 +54,7 @@ pub fn period_link(state: u8, letter: u8, parent: u16) -> u32
     requires letter_bound { letter < 16 }
     ensures { result ≡ period_link state letter parent }
 {
-    ((parent as u32) << 16) | ((letter as u32) << 4) | (state as u32)
+    ((parent as u32) << 16) | (((letter as u32) << 4) | (state as u32))
 }
 
 // The A state of a period link, its lowest 4 bits.

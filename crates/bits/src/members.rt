@@ -123,6 +123,7 @@ impl Set for u16 {
 }
 
 // Is each member of x one of y? It is if what x shares with y is all of x.
+#[tactic(auto, using(crate::proofs::Sets::subset_test))]
 pub fn within(x: u8, y: u8) -> bool
     ensures { result ≡ subset 8 x y }
 {
@@ -130,14 +131,15 @@ pub fn within(x: u8, y: u8) -> bool
 }
 
 // What the members of x step to, row[q] being what q steps to: the union of the members' rows.
+#[tactic(auto, using(crate::proofs::Moved::member_by_member))]
 pub fn moved<S: Set>(row: &[S], x: S) -> S
     requires { length row.now ≡ S.WIDTH }
     ensures { S.bits result ≡ moved S.WIDTH (by_sets S.bits S.none row.now) (S.bits x) }
 {
     let mut out = S::none();
-    for q in 0..S::WIDTH {
+    for (q, set) in row.iter().enumerate() {
         if x.has(q) {
-            out = out.union(row[q]);
+            out = out.union(*set);
         }
     }
     out

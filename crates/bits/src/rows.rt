@@ -3,6 +3,7 @@ ghost use Rattle.std.specs.Prelude.{◌≡◌, ◌<◌};
 ghost use Rattle.bits.specs.Pairs.{row, rows_of};
 
 // Row q of c: its byte q.
+#[tactic(auto, using(crate::proofs::Pairs::row_shifted))]
 pub fn row_of(c: u64, q: usize) -> u8
     requires { q < 8 }
     ensures { result ≡ row 8 c q }
@@ -11,6 +12,7 @@ pub fn row_of(c: u64, q: usize) -> u8
 }
 
 // All pairs that start in x: row q is full, 255, where q is a member of x, and else empty.
+#[tactic(auto, using(crate::proofs::Contained::row_by_row))]
 pub fn rows(x: u8) -> u64
     ensures { result ≡ rows_of 8 x }
 {

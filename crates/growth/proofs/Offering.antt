@@ -11,6 +11,7 @@ use lib.ListN.{length, get_or, get_elem?, take, drop, set, length-append, length
 use lib.Seq.{length-take-le, drop-cons, drop-drop, drop-append-add, take-append_seam, set-append_seam}
 use Rattle.growth.specs.Grow.{Outcome, ended, full, onward, entries, covered, offer, grow}
 use Rattle.growth.specs.Steps.{gather}
+use Rattle.growth.proofs.Gathered.{gather_next, gather_over}
 use Rattle.growth.specs.Lent.{growth_of, over}
 use Rattle.growth.specs.declared.Full.{Full}
 use Rattle.growth.proofs.Entries.{At, entry, at_get_d}
@@ -59,15 +60,10 @@ module _ {E : Type 0} (covers : E → E → Bool) (room : ℕ) where
 
   pub gather_on : (f : ℕ → List E) (n i : ℕ) (t : List E) → i < n
       → offer covers room t (gather i (n - i) f) ≡ onward (offer covers room t (f i)) (λ s. offer covers room s (gather (i + 1) (n - (i + 1)) f))
-  unfolding gather
-  gather_on f n i t h = ap (offer covers room t) gathered ∙ offer_append covers room t (f i) (gather (i + 1) (n - (i + 1)) f)
-    where
-      gathered : gather i (n - i) f ≡ f i ++ gather (i + 1) (n - (i + 1)) f
-      gathered = ap (λ (k : ℕ). gather i k f) (left_suc n i h) ∙ ap (λ (j : ℕ). f i ++ gather j (n - (i + 1)) f) (sym (add-one i))
+  gather_on f n i t h = ap (offer covers room t) (gather_next f n i h) ∙ offer_append covers room t (f i) (gather (i + 1) (n - (i + 1)) f)
 
   pub gather_done : (f : ℕ → List E) (n i : ℕ) (t : List E) → n ≤ i → offer covers room t (gather i (n - i) f) ≡ ended t
-  unfolding gather
-  gather_done f n i t h = ap (λ (k : ℕ). offer covers room t (gather i k f)) (left_none n i h) ∙ offer_none t
+  gather_done f n i t h = ap (offer covers room t) (gather_over f n i h) ∙ offer_none t
 
   -- ---- the loop that takes the entries in order
 

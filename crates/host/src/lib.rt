@@ -9,7 +9,7 @@ ghost use Rattle.host.specs.Decide.{room_with, row_left, RowDecided};
 
 use inclusion::Answer;
 use records::Refusal;
-use search::Lent;
+use search::{Lent, Room};
 
 // Document 01's number of an answer of the lasso test.
 fn number_of(tested: Result<bool, Refusal>) -> u32
@@ -23,6 +23,7 @@ fn number_of(tested: Result<bool, Refusal>) -> u32
 
 // The lasso test: 0 rejected, 1 accepted, or 100 plus the refusal.
 #[unsafe(no_mangle)]
+#[tactic(auto, using(crate::proofs::Numbered::lasso_right))]
 pub extern "C" fn wickerbell_lasso(records: &[u8], stem: &[u8], period: &[u8]) -> u32
     ensures { LassoRight records.now stem.now period.now result }
 {
@@ -92,8 +93,11 @@ pub extern "C" fn wickerbell_decide(
         stem,
         period,
     };
-    let room = room_with(row, stem_room);
-    let answer = inclusion::decide(model, rule, room, period_room as usize, &mut lent);
+    let room = Room {
+        stems: room_with(row, stem_room),
+        periods: period_room as usize,
+    };
+    let answer = inclusion::decide(model, rule, room, &mut lent);
     put_row(row, answer);
     number_in(answer)
 }

@@ -1,5 +1,5 @@
 -- What the answer to a walk's ending says, verdict by verdict. Assumes nothing.
-use mathlib.Core.Bool.{true, false≢true}
+use mathlib.Core.Bool.{true}
 use mathlib.Core.Logic.{◌↔◌}
 use mathlib.Core.Path.{◌≡◌, refl, ap}
 use Prim.Native.Nat.{ℕ}
@@ -36,8 +36,8 @@ module _ (S P : ℕ) (c : Counts) where
   unfolding answer_to ending_by numbers_of
   zero_decided included = (λ e. refl, λ e. refl)
   zero_decided (shown x y) = (λ e. refl, λ e. refl)
-  zero_decided (stems_full k) = (λ e. absurd (omega arith), λ e. absurd (false≢true e))
-  zero_decided periods_full = (λ e. absurd (omega arith), λ e. absurd (false≢true e))
+  zero_decided (stems_full k) = (λ e. absurd (omega arith), λ e. absurd cc)
+  zero_decided periods_full = (λ e. absurd (omega arith), λ e. absurd cc)
 
   pub eight_stems : (k : ℕ) (v : Verdict) → ((number_of (answer_by v) ≡ 8) × (which_of (answer_by v) ≡ k)) ↔ (v ≡ stems_full k)
   unfolding answer_to ending_by numbers_of

@@ -4,9 +4,9 @@ use mathlib.Core.Path.{◌≡◌, refl}
 use Prim.Native.Nat.{ℕ, ◌*◌, ◌^◌, ◌≤◌}
 use native.Mathlib.Omega.{arith}
 use lib.ListN.{length, take}
-use lib.Seq.{take-append_seam}
 use Rattle.acceptance.specs.Lasso.{Included, Shown}
 use Rattle.growth.specs.Lent.{over}
+use Rattle.growth.proofs.Offering.{take_over}
 use Rattle.records.specs.declared.Refusal.{Refusal}
 use Rattle.records.specs.Spelled.{spelled}
 use Rattle.loading.proofs.Judged.{enough}
@@ -20,7 +20,7 @@ use Rattle.walk.proofs.Bounds.{walk_bounds, walk_tables, walk_decided}
 use Rattle.walk.proofs.Room.{walk_filled, short}
 use Rattle.inclusion.specs.declared.Answer.{Answer}
 use Rattle.inclusion.specs.declared.Answer.TheVariants as says
-use Rattle.inclusion.specs.Answers.{sizes_of, none_counted, Start, walks, stops, start_of, walk_of, decided, left, numbers_of}
+use Rattle.inclusion.specs.Answers.{none_counted, Start, walks, stops, start_of, walk_of, decided, left, numbers_of}
 use Rattle.inclusion.specs.Decided.{number_of, counts_in, states_of, Counted, Tabled, Lacking, Filled, Made, Decided}
 use Rattle.inclusion.proofs.Started.{ready, model_bounded, rule_small, model_numbered, rule_numbered}
 use Rattle.inclusion.proofs.Refusals.{stop_number}
@@ -28,8 +28,7 @@ use Rattle.inclusion.proofs.Answered.{answer_by, counts_are, zero_decided, eight
 
 -- the first elements of a buffer in which these were written
 pub written : (w old : List ℕ) {n : ℕ} → n ≡ length w → take n (over w old) ≡ w
-unfolding over
-written w old e = rw e (take-append_seam w _)
+written w old e = rw e (take_over w old)
 
 module _ (model rule : List ℕ) (S P : ℕ) (old : Buffers) where
   abbrev walk : Walked
@@ -65,7 +64,7 @@ module _ (model rule : List ℕ) (S P : ℕ) (old : Buffers) where
   is_shown (stopped refusal e) c l q = absurd cc
   is_shown (walked m) c l q =
       let (_, _, k) = ready m in
-      let room = enough S P (sizes_of old) k.lends in
+      let room = enough S P old k.lends in
       let s = shown_from S P counts verdict q in
       rw (written (stem_shown verdict) old.stem s.stem_is, written (period_shown verdict) old.period s.period_is)
       (walk_shown (model_bounded k) (rule_small k) S P room.few_stems room.few_periods s.verdict_is)

@@ -16,9 +16,9 @@ use Rattle.records.specs.declared.Fault.{Fault}
 use Rattle.records.specs.declared.Refusal.{Refusal}
 use Rattle.records.specs.Spelled.{byte, kind_i, kind_f, kind_t, count, started}
 use Rattle.records.specs.Faults.{again, fault, first_fault, fault_at, head_of, judged}
-use Rattle.loading.specs.Outset.{long_enough, outset_of}
+use Rattle.loading.specs.Outset.{sizes_of, long_enough, outset_of}
 use Rattle.search.specs.Ending.{Buffers}
-use Rattle.inclusion.specs.Answers.{sizes_of, stops, start_by, start_of}
+use Rattle.inclusion.specs.Answers.{stops, start_by, start_of}
 
 -- ---- a file
 

@@ -2,7 +2,7 @@
 -- walk and numbered by their states. Assumes nothing.
 use mathlib.Core.Bool.{Bool, true, false}
 use mathlib.Core.List.{List}
-use mathlib.Core.Path.{◌≡◌, refl, sym, subst}
+use mathlib.Core.Path.{◌≡◌, refl, sym, ap, subst, ◌∙◌}
 use Prim.Native.Nat.{ℕ}
 use Rattle.acceptance.specs.Contexts.{Small}
 use Rattle.acceptance.proofs.Targets.{small_more}
@@ -11,13 +11,14 @@ use Rattle.growth.proofs.Numbered.{numbered}
 use Rattle.automata.specs.declared.Head.{Head}
 use Rattle.std.specs.Prelude.{Result, Ok, Err}
 use Rattle.records.specs.declared.Fault.{Fault}
+use Rattle.records.specs.declared.Refusal.{Refusal}
 use Rattle.records.specs.Spelled.{spelled}
 use Rattle.records.specs.Faults.{judged, head_of}
 use Rattle.records.proofs.Good.{good_file}
 use Rattle.records.proofs.Limits.{spelled_small}
-use Rattle.loading.specs.Outset.{long_enough, outset_of}
+use Rattle.loading.specs.Outset.{sizes_of, long_enough, outset_of}
 use Rattle.search.specs.Ending.{Buffers}
-use Rattle.inclusion.specs.Answers.{sizes_of, walks, start_by, start_of}
+use Rattle.inclusion.specs.Answers.{walks, start_by, start_of}
 use Rattle.inclusion.specs.Decided.{states_of, Made}
 
 -- ---- a good file
@@ -39,16 +40,27 @@ pub record Ready (model rule : List ℕ) (S P : ℕ) (lent : Buffers) (a b : Hea
   pub lends : long_enough S P (sizes_of lent) ≡ true
 
 module _ {model rule : List ℕ} {S P : ℕ} {lent : Buffers} where
-  pub ready : Made model rule S P lent → (a : Head) × (b : Head) × Ready model rule S P lent a b
-  unfolding start_of outset_of
-  ready e = at (judged 16 model) refl (judged 8 rule) refl (long_enough S P (sizes_of lent)) refl (sym e)
+  pub heads : {a b : Head} → outset_of (judged 16 model) (judged 8 rule) (long_enough S P (sizes_of lent)) ≡ Ok (a, b) → Ready model rule S P lent a b
+  unfolding outset_of
+  heads {a} {b} e = at (judged 16 model) refl (judged 8 rule) refl (long_enough S P (sizes_of lent)) refl e
     where
       at : (f : Result Head Fault) → judged 16 model ≡ f → (g : Result Head Fault) → judged 8 rule ≡ g → (c : Bool) → long_enough S P (sizes_of lent) ≡ c
-          → walks ≡ start_by (outset_of f g c) → (a : Head) × (b : Head) × Ready model rule S P lent a b
-      at (Ok a) ef (Ok b) eg true ec e = (a, b, record { model_good = ef; rule_good = eg; lends = ec })
-      at (Ok a) ef (Ok b) eg false ec e = absurd cc
-      at (Ok a) ef (Err fault) eg c ec e = absurd cc
+          → outset_of f g c ≡ Ok (a, b) → Ready model rule S P lent a b
+      at (Ok x) ef (Ok y) eg true ec e =
+          let same : (x, y) ≡ (a, b) = cc in
+          record { model_good = ef ∙ ap (λ (p : Head × Head). Ok p.0) same; rule_good = eg ∙ ap (λ (p : Head × Head). Ok p.1) same; lends = ec }
+      at (Ok x) ef (Ok y) eg false ec e = absurd cc
+      at (Ok x) ef (Err fault) eg c ec e = absurd cc
       at (Err fault) ef g eg c ec e = absurd cc
+
+  pub ready : Made model rule S P lent → (a : Head) × (b : Head) × Ready model rule S P lent a b
+  unfolding start_of
+  ready e = at (outset_of (judged 16 model) (judged 8 rule) (long_enough S P (sizes_of lent))) refl (sym e)
+    where
+      at : (o : Result (Head × Head) Refusal) → outset_of (judged 16 model) (judged 8 rule) (long_enough S P (sizes_of lent)) ≡ o → walks ≡ start_by o
+          → (a : Head) × (b : Head) × Ready model rule S P lent a b
+      at (Ok (a, b)) o e = (a, b, heads o)
+      at (Err r) o e = absurd cc
 
   -- both automata are as the walk wants them
   module _ {a b : Head} (r : Ready model rule S P lent a b) where

@@ -26,6 +26,6 @@ unfolding numbers_of
 length_with_refusal x p = omega (arith, ap (λ (row : List ℕ). get_or row 7 0) p)
 
 -- 8 with P for its place
-pub place_of_eight : Refuses AnswerTo.Post (2, (3, (StemsFull 0 (counted 2 0 0 0), _))) (says.Refused (refusal NoStems 0 3) (counted 2 0 0 0))
+pub place_of_eight : Refuses AnswerTo.Post (record { stems = 2; periods = 3 }, (StemsFull 0 (counted 2 0 0 0), _)) (says.Refused (refusal NoStems 0 3) (counted 2 0 0 0))
 unfolding answer_to numbers_of
 place_of_eight x p = omega (arith, ap (λ (a : Answer). get_or (numbers_of a) 2 0) p)

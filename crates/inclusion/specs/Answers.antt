@@ -1,13 +1,12 @@
 -- What the tool answers, for any two files, any room and any six lent buffers (document 01, "Numbers the tool answers with"). Assumes nothing.
-use Rattle.std.specs.Prelude.{List, [], ◌∷◌, ℕ, Result, Ok, Err, length}
+use Rattle.std.specs.Prelude.{List, [], ◌∷◌, ℕ, Result, Ok, Err}
 use Rattle.automata.specs.declared.Head.{Head}
 use Rattle.adding.specs.declared.reason.Reason.TheVariants.{StemsFull as no_room_for_stems, PeriodsFull as no_room_for_periods}
 use Rattle.adding.specs.Reason.{number}
 use Rattle.records.specs.declared.Refusal.{Refusal}
 use Rattle.records.specs.Spelled.{spelled}
 use Rattle.records.specs.Faults.{judged, refusal}
-use Rattle.loading.specs.declared.Sizes.{Sizes}
-use Rattle.loading.specs.Outset.{long_enough, outset_of}
+use Rattle.loading.specs.Outset.{sizes_of, long_enough, outset_of}
 use Rattle.search.specs.declared.Counts.{Counts}
 use Rattle.search.specs.declared.Ending.{Ending}
 use Rattle.search.specs.declared.Ending.TheVariants.{Included as Passed, Shown, StemsFull, PeriodsFull}
@@ -15,17 +14,6 @@ use Rattle.walk.specs.Walk.{Walked, walk}
 use Rattle.search.specs.Ending.{Buffers, ending_of, left_by}
 use Rattle.inclusion.specs.declared.Answer.{Answer}
 use Rattle.inclusion.specs.declared.Answer.TheVariants.{Included, NotIncluded, Refused}
-
--- how long the six buffers are
-abbrev pub sizes_of : Buffers → Sizes
-sizes_of lent = record {
-  smallest = length lent.smallest;
-  largest = length lent.largest;
-  links = length lent.links;
-  contexts = length lent.contexts;
-  stem = length lent.stem;
-  period = length lent.period;
-}
 
 abbrev pub counted : ℕ → ℕ → ℕ → ℕ → Counts
 counted u w p t = record { u = u; w = w; p = p; t = t }

@@ -10,10 +10,11 @@ use adding::Reason;
 use automata::Automaton;
 use loading::Sizes;
 use records::Refusal;
-use search::{Counts, Ending, Lengths, Lent};
+use search::{Counts, Ending, Lengths, Lent, Room};
 use std::fmt;
 
-// What the tool answers: a verdict with its counts, for a shown lasso the lengths of its words, or a refusal with the counts so far.
+// What the tool answers: a verdict with its counts, for a shown lasso the lengths of its words, or a refusal with the counts so far. No Result: who
+// asks looks at all three, no `?` hands one on, and each has its counts.
 #[derive(Clone, Copy)]
 pub enum Answer {
     Included(Counts),
@@ -23,8 +24,8 @@ pub enum Answer {
 
 // The answer to how the walk ends: a table that lacks room is a refusal, whose place is its room.
 #[tactic(auto, unfolding(crate::specs::Answers::answer_to))]
-fn answer_to(stem_room: usize, period_room: usize, ending: Ending) -> Answer
-    ensures { result ≡ answer_to stem_room period_room ending }
+fn answer_to(room: Room, ending: Ending) -> Answer
+    ensures { result ≡ answer_to room.stems room.periods ending }
 {
     match ending {
         Ending::Included(counts) => Answer::Included(counts),
@@ -33,7 +34,7 @@ fn answer_to(stem_room: usize, period_room: usize, ending: Ending) -> Answer
             let refusal = Refusal {
                 reason: Reason::StemsFull,
                 which,
-                place: stem_room,
+                place: room.stems,
             };
             Answer::Refused(refusal, counts)
         }
@@ -41,7 +42,7 @@ fn answer_to(stem_room: usize, period_room: usize, ending: Ending) -> Answer
             let refusal = Refusal {
                 reason: Reason::PeriodsFull,
                 which: 0,
-                place: period_room,
+                place: room.periods,
             };
             Answer::Refused(refusal, counts)
         }
@@ -49,15 +50,9 @@ fn answer_to(stem_room: usize, period_room: usize, ending: Ending) -> Answer
 }
 
 // The answer for a model and a rule: both files and what is lent are judged, and then the walk of the two loaded automata is made.
-pub fn decide(
-    model: &[u8],
-    rule: &[u8],
-    stem_room: usize,
-    period_room: usize,
-    lent: &mut Lent<'_>,
-) -> Answer
+pub fn decide(model: &[u8], rule: &[u8], room: Room, lent: &mut Lent<'_>) -> Answer
     ensures lent { StillLent lent.old lent.new }
-    ensures decided { Decided model.now rule.now stem_room period_room (contents lent.old) result (contents lent.new) }
+    ensures decided { Decided model.now rule.now room.stems room.periods (contents lent.old) result (contents lent.new) }
 {
     let sizes = Sizes {
         smallest: lent.smallest.len(),
@@ -69,15 +64,7 @@ pub fn decide(
     };
     let mut model_table = [[0u16; 16]; 16];
     let mut rule_table = [[0u8; 8]; 16];
-    let loaded = loading::load(
-        model,
-        rule,
-        stem_room,
-        period_room,
-        sizes,
-        &mut model_table,
-        &mut rule_table,
-    );
+    let loaded = loading::load(model, rule, room, sizes, &mut model_table, &mut rule_table);
     match loaded {
         Ok((model_head, rule_head)) => {
             let model = Automaton {
@@ -88,8 +75,8 @@ pub fn decide(
                 table: rule_table,
                 head: rule_head,
             };
-            let ending = search::walk(&model, &rule, stem_room, period_room, lent);
-            answer_to(stem_room, period_room, ending)
+            let ending = search::walk(&model, &rule, room, lent);
+            answer_to(room, ending)
         }
         Err(refusal) => {
             let none = Counts {

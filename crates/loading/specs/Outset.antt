@@ -1,5 +1,5 @@
 -- What comes before the walk (document 01, "Numbers the tool answers with"): what the two files and what is lent lead to, and what loading gives. Assumes nothing.
-use Rattle.std.specs.Prelude.{Bool, ◌&&◌, cond, List, ◌≡◌, ℕ, ◌*◌, ltb, leb, Result, Ok, Err}
+use Rattle.std.specs.Prelude.{Bool, ◌&&◌, cond, List, ◌≡◌, ℕ, ◌*◌, ltb, leb, length, Result, Ok, Err}
 use Rattle.automata.specs.declared.Head.{Head}
 use Rattle.adding.specs.declared.reason.Reason.TheVariants.{TooLittleLent}
 use Rattle.records.specs.declared.Fault.{Fault}
@@ -7,7 +7,19 @@ use Rattle.records.specs.declared.Refusal.{Refusal}
 use Rattle.records.specs.Spelled.{table_of}
 use Rattle.records.specs.Faults.{good_records, judged, refusal}
 use Rattle.records.specs.Narrow.{narrow}
+use Rattle.search.specs.Ending.{Buffers}
 use Rattle.loading.specs.declared.Sizes.{Sizes}
+
+-- how long the six buffers are
+abbrev pub sizes_of : Buffers → Sizes
+sizes_of lent = record {
+  smallest = length lent.smallest;
+  largest = length lent.largest;
+  links = length lent.links;
+  contexts = length lent.contexts;
+  stem = length lent.stem;
+  period = length lent.period;
+}
 
 -- S and P are in range, and the lent buffers long enough for them
 unfoldable pub long_enough : ℕ → ℕ → Sizes → Bool

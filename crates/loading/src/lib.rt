@@ -7,6 +7,7 @@ ghost use Rattle.loading.specs.Outset.{long_enough, outset_of, Loads};
 use adding::Reason;
 use automata::Head;
 use records::{Fault, Refusal};
+use search::Room;
 
 // How many elements each of the six lent buffers has.
 #[derive(Clone, Copy)]
@@ -42,34 +43,33 @@ fn judge(
 
 // The room is in range, and the lent buffers are long enough for it.
 #[tactic(auto, unfolding(crate::specs::Outset::long_enough))]
-fn enough(stem_room: usize, period_room: usize, sizes: Sizes) -> bool
-    ensures { result ≡ long_enough stem_room period_room sizes }
+fn enough(room: Room, sizes: Sizes) -> bool
+    ensures { result ≡ long_enough room.stems room.periods sizes }
 {
-    matches!(stem_room, 1..=4096)
-        && matches!(period_room, 1..=65535)
-        && stem_room <= sizes.smallest
-        && stem_room <= sizes.largest
-        && period_room <= sizes.links
-        && 2 * period_room <= sizes.contexts
-        && stem_room <= sizes.stem
-        && period_room <= sizes.period
+    matches!(room.stems, 1..=4096)
+        && matches!(room.periods, 1..=65535)
+        && room.stems <= sizes.smallest
+        && room.stems <= sizes.largest
+        && room.periods <= sizes.links
+        && 2 * room.periods <= sizes.contexts
+        && room.stems <= sizes.stem
+        && room.periods <= sizes.period
 }
 
 // Reads both files into tables, and judges them and what is lent.
 pub fn load(
     model: &[u8],
     rule: &[u8],
-    stem_room: usize,
-    period_room: usize,
+    room: Room,
     sizes: Sizes,
     model_table: &mut [[u16; 16]; 16],
     rule_table: &mut [[u8; 8]; 16],
 ) -> Result<(Head, Head), Refusal>
-    ensures { Loads model.now rule.now (long_enough stem_room period_room sizes) result model_table.new rule_table.new }
+    ensures { Loads model.now rule.now (long_enough room.stems room.periods sizes) result model_table.new rule_table.new }
 {
     let model_file = records::read(model, 16, model_table);
     let mut wide = [[0u16; 16]; 16];
     let rule_file = records::read(rule, 8, &mut wide);
     *rule_table = records::narrowed(&wide);
-    judge(model_file, rule_file, enough(stem_room, period_room, sizes))
+    judge(model_file, rule_file, enough(room, sizes))
 }

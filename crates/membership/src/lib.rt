@@ -36,6 +36,7 @@ fn check(which: u8, word: &[u8]) -> Result<(), Refusal>
 }
 
 // The states that the stem leads to from the initial state: each of its letters moves the set once.
+#[tactic(auto, using(crate::proofs::Walked::moved_begin, crate::proofs::Walked::moved_turn, crate::proofs::Walked::moved_end))]
 fn target_of(model: &Model, stem: &[u8]) -> u16
     requires { (model.now.head.start < 16) × All (λ x. x < 16) stem.now }
     ensures { result ≡ target 16 (aut model.now) stem.now }
@@ -48,6 +49,7 @@ fn target_of(model: &Model, stem: &[u8]) -> u16
 }
 
 // The context of the period: that of the empty word, made longer by each of its letters.
+#[tactic(auto, using(crate::proofs::Walked::context_begin, crate::proofs::Walked::context_turn, crate::proofs::Walked::context_end))]
 fn context_of(model: &Model, period: &[u8]) -> Context<[u16; 16]>
     requires { All (λ x. x < 16) period.now }
     ensures { of_rows result ≡ context_of 16 (aut model.now) period.now }
@@ -60,6 +62,7 @@ fn context_of(model: &Model, period: &[u8]) -> Context<[u16; 16]>
 }
 
 // The verdict for words of good letters: accepted if the stem leads to a state from which the period, repeated for ever, is.
+#[tactic(auto, using(bits::proofs::Sets::meets_test), unfolding(crate::specs::Test::verdict))]
 fn decide(model: &Model, stem: &[u8], period: &[u8]) -> bool
     requires { (model.now.head.start < 16) × All (λ x. x < 16) stem.now × All (λ x. x < 16) period.now }
     ensures { result ≡ verdict (aut model.now) stem.now period.now }
@@ -88,6 +91,7 @@ fn test_words(model: &Model, stem: &[u8], period: &[u8]) -> Result<bool, Refusal
 }
 
 // The lasso test of one automaton with A's limits: the records are judged, then the words, and good ones are decided.
+#[tactic(auto, using(crate::proofs::Judged::start_small))]
 pub fn test(records: &[u8], stem: &[u8], period: &[u8]) -> Result<bool, Refusal>
     ensures { TestRight records.now stem.now period.now result }
 {

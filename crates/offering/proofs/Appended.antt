@@ -21,10 +21,6 @@ use Rattle.offering.specs.declared.Table.{Table}
 use Rattle.offering.specs.Lent.{Leaves}
 use Rattle.offering.specs.Growing.{entries_of, Keeps, Roomy, Ready}
 
--- lacking room is not having ended
-pub never : {A : Type 0} {e : Full} {m : A} → Err e ≡ Ok m → ⊥
-never e = cc
-
 -- what is kept is kept over two steps
 pub keeps_on : {s t u : Table} → Keeps s t → Keeps t u → Keeps s u
 keeps_on a b = record {

@@ -24,7 +24,7 @@ use Rattle.covering.proofs.Chain.{chained_append}
 use Rattle.offering.specs.declared.Table.{Table}
 use Rattle.offering.specs.Lent.{Leaves}
 use Rattle.offering.specs.Growing.{entries_of, Keeps, counted, Ready, Grows}
-use Rattle.offering.proofs.Appended.{never, as_they_were}
+use Rattle.offering.proofs.Appended.{as_they_were}
 
 -- a candidate that is not covered is appended
 offer_append : {E : Type 0} (covers : E → E → Bool) (room : ℕ) (t : List E) (c : E) → covered covers t c ≡ false → offer covers room t (c ∷ []) ≡ append room t c
@@ -70,4 +70,5 @@ module _ {t : Table} (ready : Ready t) (e : Period) {b : Bool} {scanned : List �
           (subst (λ (k : ℕ). Chained (covers t.rows) (entries_of t ++ (e ∷ [])) [] (set (set scanned (16 + k) (get_or scanned (link_state e.link) 0)) (link_state e.link) (suc k))) count
           (chained_append (covers t.rows) (entries_of t) e gone (omega (arith, ltb-true t.n t.room l, long, count, ready.roomy.chains_fit)) (λ d. covers_state t.rows e d) (omega arith)))
       at false l ok =
-          absurd (never (sym (ap growth_of (append_full {room = t.room} (entries_of t) e (omega (arith, ltb-false t.n t.room l, count)))) ∙ sym lent.answer ∙ ap (λ (s : Result (Unit {0}) Full). counted s t'.n) ok))
+          let stop = append_full {room = t.room} (entries_of t) e (omega (arith, ltb-false t.n t.room l, count)) in
+          absurd (cc (lent.answer ∙ ap growth_of stop, ap (λ (s : Result (Unit {0}) Full). counted s t'.n) ok))

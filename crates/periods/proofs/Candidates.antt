@@ -27,8 +27,7 @@ use Rattle.growth.proofs.Built.{Inherited}
 use Rattle.growth.proofs.Carried.{mapped, table_map}
 use Rattle.automata.specs.declared.Automaton.{Automaton}
 use Rattle.automata.specs.declared.Head.{Head}
-use Rattle.automata.specs.declared.Context.{Context as Held}
-use Rattle.automata.specs.Loaded.{cell, aut_of, aut, steps_of, of_pairs, as_pairs}
+use Rattle.automata.specs.Loaded.{cell, aut_of, aut, steps_of, of_pairs}
 use Rattle.covering.specs.Entries.{Period, period_covers}
 use Rattle.periods.specs.declared.table.Word.{Word}
 use Rattle.periods.specs.declared.table.Move.{Move}
@@ -37,7 +36,8 @@ use Rattle.covering.specs.Masks.{covers}
 use Rattle.periods.specs.Candidates.{move_of, at_state, at_letter}
 use Rattle.covering.proofs.Masks.{covers_contained}
 use Rattle.periods.proofs.Going.{Going}
-use Rattle.periods.proofs.Loop.{gather_none, from, loop_start, loop_end, loop_past, loop_full, loop_on}
+use Rattle.growth.proofs.Gathered.{gather_nothing}
+use Rattle.periods.proofs.Loop.{from, loop_start, loop_end, loop_past, loop_full, loop_on}
 use Rattle.periods.proofs.Rest.{Rest, rest_start, rest_none, low, less, from_i, here, between, rest_on}
 
 -- ---- letter by letter
@@ -93,11 +93,6 @@ module _ {by : Move} {rest : ℕ} {s t : Table} (l : Left by rest s t) where
       left_on ok = record { i = q + 1; members = rest_on l.members some is; going = loop_on (at_state by) 16 s q going_here left_low (state_some by q (here l.members some is) e) g ok }
 
 module _ (model : List (List ℕ)) (B : Aut) (word : Word) where
-  pub move_is : (x : ℕ) {d : Held ℕ} → of_pairs d ≡ longer 8 B (of_pairs word.context) x
-      → record { successors = get_or (get_or model x []) word.state 0; letter = x; parent = word.parent; context = d } ≡ move_of model B word x
-  unfolding move_of cell
-  move_is x e = ap (λ (c : Context). record { successors = get_or (get_or model x []) word.state 0; letter = x; parent = word.parent; context = as_pairs c }) e
-
   -- the candidates by the letter x
   unfoldable pub by_letter : ℕ → List Period
   by_letter x = at_letter (move_of model B word x)
@@ -105,7 +100,7 @@ module _ (model : List (List ℕ)) (B : Aut) (word : Word) where
   -- where it leads nowhere there is none
   pub letter_none : (x : ℕ) → get_or (get_or model x []) word.state 0 ≡ 0 → by_letter x ≡ []
   unfolding by_letter at_letter at_state move_of cell
-  letter_none x e = gather_none (at_state (move_of model B word x)) 0 16 (λ q. rw (e, bit_zero))
+  letter_none x e = gather_nothing (at_state (move_of model B word x)) 0 16 (λ q. rw (e, bit_zero))
 
   -- all letters
   pub letters_all : word_next (steps_of model) B word.state word.parent (of_pairs word.context) ≡ gather 0 16 by_letter

@@ -1,5 +1,5 @@
 -- The loop over the numbers below k that offers, for each in turn, its candidates. Assumes nothing.
-use mathlib.Core.Path.{◌≡◌, refl, sym, ap, ap₂, ◌∙◌, subst}
+use mathlib.Core.Path.{◌≡◌, sym, ap, ap₂, ◌∙◌, subst}
 use mathlib.Core.List.{List, [], ◌++◌}
 use Prim.Native.Nat.{ℕ, zero, suc, ◌+◌, ◌-◌, ◌≤◌, ◌<◌}
 use native.Mathlib.Nat.{sub-zero}
@@ -14,12 +14,6 @@ use Rattle.covering.specs.Masks.{covers}
 use Rattle.offering.specs.declared.Table.{Table}
 use Rattle.offering.specs.Growing.{entries_of, Ready, Grows}
 use Rattle.periods.proofs.Going.{Going, going, going_as, going_end, going_full, going_on}
-
--- no candidate at all
-pub gather_none : (f : ℕ → List Period) (i k : ℕ) → ((j : ℕ) → f j ≡ []) → gather i k f ≡ []
-unfolding gather
-gather_none f i zero h = refl
-gather_none f i (suc k) h = ap₂ ◌++◌ (h i) (gather_none f (suc i) k h)
 
 -- none of the first d
 gather_past : (f : ℕ → List Period) (i d k m : ℕ) → m ≡ d + k → ((j : ℕ) → i ≤ j → j < i + d → f j ≡ []) → gather i m f ≡ gather (i + d) k f

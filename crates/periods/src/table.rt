@@ -52,6 +52,7 @@ fn by_letter(table: &mut Table, by: Move) -> Result<(), Full>
 }
 
 // A word by one letter: its context is made longer once for all successors.
+#[tactic(auto, unfolding(crate::specs::Candidates::move_of, automata::specs::Loaded::cell))]
 fn step(model: &Model, rule: &Rule, word: Word, x: u8) -> Move
     requires { (word.state < 16) × (x < 16) }
     ensures { result ≡ move_of model.now.table (aut rule.now) word x }
@@ -65,6 +66,7 @@ fn step(model: &Model, rule: &Rule, word: Word, x: u8) -> Move
 }
 
 // The candidates of a word, letters rising; those that lead nowhere are passed over.
+#[tactic(auto, unfolding(crate::specs::Candidates::move_of))]
 fn expand(table: &mut Table, model: &Model, rule: &Rule, word: Word) -> Result<(), Full>
     requires state_bound { word.state < 16 }
     requires ready { Ready table.old }
@@ -96,7 +98,7 @@ fn word_at(table: &Table, i: usize) -> Word
 }
 
 // The table that grows from the candidates of a first word: these, and then those of the entries in order, of those that are appended meanwhile too,
-// until none is left. No more than `room` are ever there.
+// until none is left. No more than `room` are ever there. The end moves meanwhile: no `for` has it.
 pub fn build(table: &mut Table, model: &Model, rule: &Rule, first: Word) -> Result<(), Full>
     requires state_bound { first.state < 16 }
     requires ready { Ready table.old }

@@ -1,6 +1,6 @@
 -- What follows from the contract alone: any two results that it allows coincide, and more room and longer buffers never change an answer of 0, its words
 -- or its tables. Assumes nothing.
-use mathlib.Core.Bool.{true, false≢true}
+use mathlib.Core.Bool.{true}
 use mathlib.Core.List.{List}
 use mathlib.Core.Path.{◌≡◌, refl, ap, subst⁻¹}
 use Prim.Native.Nat.{ℕ, ◌≤◌}
@@ -46,8 +46,8 @@ any_room : (S P S' P' : ℕ) (c : Counts) (v : Verdict) → conclusive v ≡ tru
 unfolding answer_to ending_by
 any_room S P S' P' c included d = refl
 any_room S P S' P' c (shown x y) d = refl
-any_room S P S' P' c (stems_full k) d = absurd (false≢true d)
-any_room S P S' P' c periods_full d = absurd (false≢true d)
+any_room S P S' P' c (stems_full k) d = absurd cc
+any_room S P S' P' c periods_full d = absurd cc
 
 zero_of : {model rule : List ℕ} {S P : ℕ} {old : Buffers} {r : Answer} {new : Buffers} → Outcome model rule S P old r new → number_of r ≡ 0 → Zero model rule S P old r new
 unfolding numbers_of

@@ -1,11 +1,12 @@
 -- What one more record adds: to the accepting set and to the table, where it is an F or a T; nothing else changes. Assumes nothing.
-use mathlib.Core.Bool.{Bool, false, ◌||◌, and-true, and-false, or-false}
+use mathlib.Core.Bool.{Bool, false, ◌||◌}
 use mathlib.Core.List.{List}
 use mathlib.Core.Path.{◌≡◌, refl, sym, ap, ap₂, ◌∙◌}
 use Prim.Native.Nat.{ℕ, suc, ◌^◌, ◌<◌}
+use native.Mathlib.Omega.{arith}
+use Rattle.std.proofs.lemmas.Bool.Decides.{nat_tests}
 use lib.Dec.{eqb}
 use lib.ListN.{set}
-use borrow.Author.Tests.{eq-eqb, ne_eqb}
 use Rattle.bits.specs.Bits.{bit, set_of, any}
 use Rattle.bits.specs.Sets.{union}
 use Rattle.bits.proofs.Bits.{bit_set_of, set_of_cong}
@@ -34,12 +35,21 @@ pub table_at : (s : List ℕ) (n x p : ℕ) → x < 16 → p < 16 → cell (tabl
 unfolding table_of
 table_at s n = cell_at 16 16 (cell_in s n)
 
+-- ---- members
+
+pub accepting_bit : (s : List ℕ) (n q : ℕ) → q < 16 → bit (accepting_in s n) q ≡ among s n kind_f q 0 0
+unfolding accepting_in
+accepting_bit s n q = bit_set_of (λ q. among s n kind_f q 0 0) 16 q
+
+pub table_bit : (s : List ℕ) (n x p q : ℕ) → x < 16 → p < 16 → q < 16 → bit (cell (table_of s n) x p) q ≡ among s n kind_t p x q
+table_bit s n x p q l h k = ap (λ (c : ℕ). bit c q) (table_at s n x p l h) ∙ bit_set_of (λ q. among s n kind_t p x q) 16 q k
+
 module _ (s : List ℕ) (i : ℕ) where
   -- ---- what the record does not say
 
   among_same : (kind a b c : ℕ) → is_record s i kind a b c ≡ false → among s i kind a b c ≡ among s (suc i) kind a b c
   unfolding among any
-  among_same kind a b c e = sym (rw e (or-false (among s i kind a b c)))
+  among_same kind a b c e = grind arith
 
   cell_same : (x p : ℕ) → ((q : ℕ) → is_record s i kind_t p x q ≡ false) → cell_in s i x p ≡ cell_in s (suc i) x p
   cell_same x p none = set_of_cong (λ q. among s i kind_t p x q) (λ q. among s (suc i) kind_t p x q) 16 (λ q h. among_same kind_t p x q (none q))
@@ -49,7 +59,7 @@ module _ (s : List ℕ) (i : ℕ) where
 
   other_kind : (kind a b c : ℕ) → eqb (byte s i 0) kind ≡ false → is_record s i kind a b c ≡ false
   unfolding is_record
-  other_kind kind a b c e = rw e
+  other_kind kind a b c e = grind arith
 
   pub accepting_other : eqb (byte s i 0) kind_f ≡ false → accepting_in s i ≡ accepting_in s (suc i)
   unfolding accepting_in
@@ -66,7 +76,7 @@ module _ (s : List ℕ) (i : ℕ) where
   unfolding accepting_in among any is_record
   accepting_more k y z =
       set_of_more (λ q. among s i kind_f q 0 0) (λ q. among s (suc i) kind_f q 0 0) 16 (byte s i 1)
-      (λ q. rw (k, y, z) (ap (λ (t : Bool). among s i kind_f q 0 0 || t) (and-true (eqb (byte s i 1) q))))
+      (λ q. grind (arith, nat_tests))
 
   pub table_more : byte s i 0 ≡ kind_t → byte s i 1 < 16 → byte s i 2 < 16
       → cell_with (table_of s i) (record { source = byte s i 1; letter = byte s i 2; target = byte s i 3 }) ≡ table_of s (suc i)
@@ -88,13 +98,13 @@ module _ (s : List ℕ) (i : ℕ) where
       member : union 16 (cell_in s i x p) (2 ^ q) ≡ cell_in s (suc i) x p
       member =
           set_of_more (λ j. among s i kind_t p x j) (λ j. among s (suc i) kind_t p x j) 16 q
-          (λ j. rw (k, eq-eqb p p refl, eq-eqb x x refl))
+          (λ j. grind (arith, nat_tests))
 
       not_source : (a b : ℕ) → (a ≡ p → ⊥) → is_record s i kind_t a x b ≡ false
-      not_source a b ne = rw (k, ne_eqb p a (λ e. ne (sym e)))
+      not_source a b ne = grind (arith, nat_tests)
 
       not_letter : (y a b : ℕ) → (y ≡ x → ⊥) → is_record s i kind_t a y b ≡ false
-      not_letter y a b ne = rw (k, ne_eqb x y (λ e. ne (sym e))) (and-false (eqb p a))
+      not_letter y a b ne = grind (arith, nat_tests)
 
       row : set (row_in s i x) p (cell_in s (suc i) x p) ≡ row_in s (suc i) x
       row = values_set (cell_in s i x) (cell_in s (suc i) x) 16 p (cell_in s (suc i) x p) h refl (λ a ne. cell_same x a (λ b. not_source a b ne))

@@ -1,15 +1,14 @@
--- A table by its cells, m rows of n sets: what stands in a cell, and that there are no members elsewhere. Assumes nothing.
-use mathlib.Core.Bool.{true, false, false≢true}
+-- A table by its cells, m rows of n sets: what stands in a cell, and that there are no members elsewhere; and arrays that are filled. Assumes nothing.
+use mathlib.Core.Bool.{true}
 use mathlib.Core.List.{List, []}
-use mathlib.Core.Logic.{⊎_elim}
-use mathlib.Core.Path.{◌≡◌, sym, ap, ◌∙◌}
+use mathlib.Core.Path.{◌≡◌, refl, ap, ◌∙◌}
 use Prim.Native.Nat.{ℕ, ◌^◌, ◌<◌}
 use native.Mathlib.Omega.{arith}
 use lib.ListN.{get_or, get_or-eq_default}
 use Rattle.bits.specs.Bits.{bit, values}
 use Rattle.bits.proofs.Bits.{bit_zero, bit_above}
-use Rattle.bits.proofs.Digits.{lt_or_ge}
-use Rattle.bits.proofs.Values.{values_length, values_at}
+use Rattle.bits.proofs.Values.{values_length, values_at, Filled, filled_all}
+use Rattle.records.specs.Narrow.{narrow_cell, narrow_row, narrow}
 use Rattle.automata.specs.Loaded.{cell}
 
 module _ (m n : ℕ) (f : ℕ → ℕ → ℕ) where
@@ -30,16 +29,20 @@ module _ (m n : ℕ) (f : ℕ → ℕ → ℕ) where
   pub member_at : (w : ℕ) → ((x p : ℕ) → f x p < 2 ^ w) → (x p q : ℕ) → bit (cell table x p) q ≡ true → (x < m) × (p < n) × (q < w)
   unfolding cell
   member_at w fits x p q e =
-      ⊎_elim
-      (λ h. ⊎_elim
-      (λ l. ⊎_elim
-      (λ k. (h, l, k))
-      (λ k. absurd (none (f x p) (cell_at x p h l) (bit_above (f x p) w q (fits x p) k)))
-      (lt_or_ge q w))
-      (λ l. absurd (none 0 (ap (λ (r : List ℕ). get_or r p 0) (row_at x h) ∙ get_or-eq_default (row x) 0 (omega (arith, values_length (f x) n))) (bit_zero q)))
-      (lt_or_ge p n))
-      (λ h. absurd (none 0 (ap (λ (r : List ℕ). get_or r p 0) (get_or-eq_default table [] (omega (arith, values_length row m)))) (bit_zero q)))
-      (lt_or_ge x m)
-    where
-      none : (c : ℕ) → cell table x p ≡ c → bit c q ≡ false → ⊥
-      none c is out = false≢true (sym out ∙ ap (λ (y : ℕ). bit y q) (sym is) ∙ e)
+      let cell_is = cell_at x p in
+      let above = bit_above (f x p) w q (fits x p) in
+      let long = values_length row m in
+      let wide = values_length (f x) n in
+      let row_is = row_at x in
+      let nothing = bit_zero q in
+      grind (arith, get_or-eq_default)
+
+-- ---- arrays that are filled: the first part of each conclusion says nothing, it shows the search where to use the second
+
+pub narrow_row_filled : (t : List (List ℕ)) (x : ℕ) (out : List ℕ) → Filled 0 (narrow_cell t x) 8 out 8 → Filled 0 (narrow_cell t x) 8 out 8 × (out ≡ narrow_row t x)
+unfolding narrow_row
+narrow_row_filled t x out all = (all, filled_all 0 (narrow_cell t x) 8 out 8 all refl)
+
+pub narrow_filled : (t out : List (List ℕ)) → Filled [] (narrow_row t) 16 out 16 → Filled [] (narrow_row t) 16 out 16 × (out ≡ narrow t)
+unfolding narrow
+narrow_filled t out all = (all, filled_all [] (narrow_row t) 16 out 16 all refl)

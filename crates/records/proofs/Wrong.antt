@@ -1,10 +1,9 @@
 -- Wrong answers that the contracts of `refusal_of`, `narrowed` and `bad_record` rule out. Assumes nothing.
-use mathlib.Core.Bool.{Bool, true, false, cond}
+use mathlib.Core.Bool.{true}
 use mathlib.Core.List.{List}
-use mathlib.Core.Path.{◌≡◌, ap}
+use mathlib.Core.Path.{◌≡◌}
 use Prim.Native.Nat.{ℕ, suc, ◌+◌, ◌%◌, ◌<◌}
 use native.Mathlib.Omega.{arith}
-use lib.Dec.{eqb}
 use contract.Lifetimes.{Lfts}
 use Rattle.bits.proofs.Refuses.{Refuses, lent}
 use Rattle.automata.specs.declared.Head.{Head}
@@ -12,7 +11,6 @@ use Rattle.automata.specs.Loaded.{cell}
 use Rattle.std.specs.Prelude.{Ok, Err}
 use Rattle.adding.specs.declared.reason.Reason.TheVariants.{NoInitialState}
 use Rattle.records.specs.declared.Fault.{Fault}
-use Rattle.records.specs.declared.Refusal.{Refusal}
 use Rattle.records.specs.Faults.{refusal}
 use Rattle.records.specs.Narrow.{narrow_cell, narrow_row, narrow}
 use Rattle.records.specs.BadRecord.{file_of, in_file, bad_file, bad_start}
@@ -24,12 +22,11 @@ use Rattle.records.proofs.narrowed.Reads as narrowed
 
 -- the rule's refusal told as the model's
 pub other_file : (fault : Fault) → Refuses RefusalOf.Post (1, (Err fault, _)) (Err (refusal fault.reason 0 fault.place))
-other_file fault x p = let e : refusal fault.reason 0 fault.place ≡ refusal fault.reason 1 fault.place = cc in omega (arith, ap (λ (r : Refusal). r.which) e)
+other_file fault x p = grind arith
 
 -- the place of the next record
 pub next_record : (which : ℕ) (fault : Fault) → Refuses RefusalOf.Post (which, (Err fault, _)) (Err (refusal fault.reason which (4 + fault.place)))
-next_record which fault x p =
-    let e : refusal fault.reason which (4 + fault.place) ≡ refusal fault.reason which fault.place = cc in omega (arith, ap (λ (r : Refusal). r.place) e)
+next_record which fault x p = grind arith
 
 -- a good file with a refusal
 pub good_refused : (which : ℕ) (head : Head) → Refuses RefusalOf.Post (which, (Ok head, _)) (Err (refusal NoInitialState 0 0))
@@ -44,11 +41,11 @@ module _ (κs : Lfts 1) (t : List (List ℕ)) {x : ℕ} (letter : x < 16) where
 
   -- seven states: nothing leads on from the last one
   pub seven_states : (r : List (List ℕ)) → cell t x 7 ≡ 1 → cell r x 7 ≡ 0 → Refuses narrowed.Post {k = κs} (lent t, _) r
-  seven_states r one none y p = omega (arith, one, none, narrow_at 7 (omega arith), ap (λ (r : List (List ℕ)). cell r x 7) p)
+  seven_states r one none y p = let last = narrow_at 7 (omega arith) in grind arith
 
   -- the other half of the row
   pub upper_half : (r : List (List ℕ)) → cell t x 0 ≡ 1 → cell t x 8 ≡ 0 → cell r x 0 ≡ cell t x 8 → Refuses narrowed.Post {k = κs} (lent t, _) r
-  upper_half r one none half y p = omega (arith, one, none, half, narrow_at 0 (omega arith), ap (λ (r : List (List ℕ)). cell r x 0) p)
+  upper_half r one none half y p = let first = narrow_at 0 (omega arith) in grind arith
 
 -- ---- `bad_record`, by the offset and the block of the part that it gives
 
@@ -56,12 +53,8 @@ module _ (κs : Lfts 1) (t : List (List ℕ)) {x : ℕ} (letter : x < 16) where
 pub one_late : (which place : ℕ) (a b : List ℕ) {offset : ℕ} (at_a at_b : ℕ) → in_file which place a b ≡ true
     → offset ≡ file_of (bad_file which place a b) at_a at_b + bad_start which place a b → offset ≡ file_of which at_a at_b + suc place → ⊥
 unfolding bad_file bad_start
-one_late which place a b at_a at_b here = rw here (λ is late. omega (arith, is, late))
+one_late which place a b at_a at_b here is late = grind arith
 
 -- a copy elsewhere
 pub copied : {A : Type 0} (which : ℕ) {block a b : A} → block ≡ file_of which a b → (block ≡ a → ⊥) → (block ≡ b → ⊥) → ⊥
-copied which {block} {a} {b} is not_a not_b = at (eqb which 1) is
-  where
-    at : (t : Bool) → block ≡ cond t b a → ⊥
-    at true e = not_b e
-    at false e = not_a e
+copied which is not_a not_b = grind arith

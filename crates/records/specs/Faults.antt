@@ -1,6 +1,7 @@
 -- Which file is refused, why and where (document 01, "Numbers the tool answers with", 1 to 6). Assumes nothing.
 use Rattle.std.specs.Prelude.{Bool, ◌&&◌, ◌||◌, cond, List, ℕ, zero, suc, ◌*◌, ◌%◌, eqb, ltb, length, Option, Some, None, Result, Ok, Err}
 use Rattle.automata.specs.declared.Head.{Head}
+use Rattle.adding.specs.declared.Draft.{Draft}
 use Rattle.adding.specs.declared.reason.Reason.{Reason}
 use Rattle.adding.specs.declared.reason.Reason.TheVariants.{BrokenLength, UnknownKind, ByteNotZero, PastLimit, ThereAlready, NoInitialState}
 use Rattle.records.specs.declared.Fault.{Fault}
@@ -36,8 +37,8 @@ abbrev pub fault_at : Reason → ℕ → Fault
 fault_at reason place = record { reason = reason; place = place }
 
 -- a record's refusal as its file's: record i begins at place 4 i
-abbrev pub placed : ℕ → Result Head Reason → Result Head Fault
-placed i (Ok head) = Ok head
+abbrev pub placed : ℕ → Result Draft Reason → Result Draft Fault
+placed i (Ok draft) = Ok draft
 placed i (Err reason) = Err (fault_at reason (4 * i))
 
 -- the answer: 1; then the first record that meets 2, 3, 4 or 5; then 6; and else the head

@@ -8,11 +8,12 @@ ghost use Rattle.records.specs.Faults.{placed, good_records, judged, refusal_of}
 ghost use Rattle.records.specs.Narrow.{narrow_row, narrow};
 ghost use Rattle.records.specs.BadRecord.{file_of, bad_file, bad_start, bad_record};
 
-use adding::Reason;
+use adding::{Draft, Reason};
 use automata::Head;
 use std::fmt;
 
-// A refusal as document 01 tells it: why, which file, word or table it is about, and its place there.
+// A refusal as document 01 tells it: why, which file, word or table it is about, and its place there. `which` stays a number: `refusal_of` and `bad_record` take
+// any, and the host gets it as it is.
 #[derive(Clone, Copy, PartialEq, Eq, Debug)]
 pub struct Refusal {
     pub reason: Reason,
@@ -44,28 +45,21 @@ pub fn refusal_of(which: u8, file: Result<Head, Fault>) -> Result<Head, Refusal>
     })
 }
 
-// Makes a table that of no record: every cell is empty.
-fn clear(table: &mut [[u16; 16]; 16])
-    ensures { table.new ≡ table_of [] 0 }
-{
-    *table = [[0u16; 16]; 16];
-}
-
 // Judges record i and adds it to what the records before it made; a refusal gets the record's place.
-#[tactic(auto, using(crate::proofs::Says::record_sized))]
+#[tactic(auto, unfolding(adding::specs::Steps::record_of, adding::specs::Steps::lone_state))]
 fn read_record(
     s: &[u8],
     i: usize,
     states: u8,
     table: &mut [[u16; 16]; 16],
-    head: Head,
-) -> Result<Head, Fault>
+    draft: Draft,
+) -> Result<Draft, Fault>
     requires { (4 * i + 3 < length s.now) × (states ≤ 16) }
-    ensures step { result ≡ placed i (step_by table.old head (record_at states s.now i)) }
+    ensures step { result ≡ placed i (step_by table.old draft (record_at states s.now i)) }
     ensures table { table.new ≡ table_by table.old (record_at states s.now i) }
 {
     let said = adding::record_at(s, i, states);
-    adding::add(table, head, said).map_err(|reason| Fault {
+    adding::add(table, draft, said).map_err(|reason| Fault {
         reason,
         place: 4 * i,
     })
@@ -73,12 +67,13 @@ fn read_record(
 
 // Reads a file whose states are below `states` into a table and a head, or answers its first fault: 1 before any record is looked at, then record by record,
 // each judged and added before the next, then 6. After a refusal the table holds the records before the fault.
+#[tactic(auto, using(crate::proofs::Reading::reading), unfolding(crate::specs::Faults::judged, crate::specs::Faults::good_records, crate::specs::Faults::head_of, crate::proofs::Turn::draft_in))]
 pub fn read(s: &[u8], states: u8, table: &mut [[u16; 16]; 16]) -> Result<Head, Fault>
     requires { states ≤ 16 }
     ensures answer { result ≡ judged states s.now }
     ensures table { table.new ≡ table_of s.now (good_records states s.now) }
 {
-    clear(table);
+    *table = [[0u16; 16]; 16];
     let n = s.len();
     let count = n / 4;
     if n % 4 != 0 {
@@ -87,25 +82,23 @@ pub fn read(s: &[u8], states: u8, table: &mut [[u16; 16]; 16]) -> Result<Head, F
             place: 4 * count,
         });
     }
-    let mut head = Head {
-        start: 16,
-        accepting: 0,
-        states: 0,
-    };
+    let mut draft = Draft::default();
     for i in 0..count {
-        head = read_record(s, i, states, table, head)?;
+        draft = read_record(s, i, states, table, draft)?;
     }
-    if head.start == 16 {
-        return Err(Fault {
-            reason: Reason::NoInitialState,
-            place: n,
-        });
-    }
-    Ok(head)
+    let start = draft.start.ok_or(Fault {
+        reason: Reason::NoInitialState,
+        place: n,
+    })?;
+    Ok(Head {
+        start,
+        accepting: draft.accepting,
+        states: draft.states,
+    })
 }
 
 // The first eight sets of the row of letter x, as bytes: each loses what is above its eight members.
-#[tactic(auto, using(bits::proofs::Values::filled_none))]
+#[tactic(auto, using(bits::proofs::Values::filled_none, bits::proofs::Values::filled_more, crate::proofs::Table::narrow_row_filled), unfolding(crate::specs::Narrow::narrow_cell, automata::specs::Loaded::cell))]
 fn narrowed_row(table: &[[u16; 16]; 16], x: usize) -> [u8; 8]
     requires { x < 16 }
     ensures { result ≡ narrow_row table.now x }
@@ -118,7 +111,7 @@ fn narrowed_row(table: &[[u16; 16]; 16], x: usize) -> [u8; 8]
 }
 
 // The table of an automaton of eight states: each row narrowed.
-#[tactic(auto, using(bits::proofs::Values::filled_none, bits::proofs::Values::filled_more))]
+#[tactic(auto, using(bits::proofs::Values::filled_none, bits::proofs::Values::filled_more, crate::proofs::Table::narrow_filled))]
 pub fn narrowed(table: &[[u16; 16]; 16]) -> [[u8; 8]; 16]
     ensures { result ≡ narrow table.now }
 {
@@ -130,7 +123,7 @@ pub fn narrowed(table: &[[u16; 16]; 16]) -> [[u8; 8]; 16]
 }
 
 // Four bytes of a file from a place on, or as many as remain.
-#[tactic(auto, using(crate::proofs::Parts::four_or_rest))]
+#[tactic(auto, using(std::proofs::lemmas::List::take_min))]
 fn four_at(file: &[u8], place: usize) -> &[u8]
     requires { place ≤ length file.now }
     ensures contents { result.now ≡ take 4 (drop place file.now) }

@@ -4,6 +4,7 @@ use mathlib.Core.List.{List, [], ◌∷◌}
 use Prim.Native.Nat.{ℕ, ◌*◌, max, ◌≤◌}
 use native.Mathlib.Omega.{arith}
 use Rattle.std.specs.Prelude.{Result, Ok, Err}
+use Rattle.std.proofs.Common.{Fits, w64}
 use lib.ListN.{length, take, length-map}
 use Rattle.acceptance.specs.Lasso.{Aut}
 use Rattle.growth.specs.Grow.{Outcome, ended, entries}
@@ -19,6 +20,7 @@ use Rattle.walk.specs.Walk.{shown, periods_full, Search, passed, rejected, searc
 use Rattle.walk.proofs.Runs.{done, lacking, going, found, run_is}
 use Rattle.lassos.specs.declared.Rejected.{Rejected}
 use Rattle.lassos.specs.Pairs.{found_of, Few}
+use Rattle.rounds.specs.declared.Lent.{Lent}
 use Rattle.rounds.specs.Finished.{Finished}
 use Rattle.rounds.specs.Round.{answered, Ready}
 use Rattle.walk.proofs.Cut.{periods}
@@ -59,24 +61,27 @@ module _ (A B : Aut) (room s rows : ℕ) {links₀ links contexts₀ contexts : 
     held : Holds v n links contexts
     held = (holds (period_table A B s rows room) h).1
 
-    pub table_within : n ≤ room
+    table_within : n ≤ room
     table_within = omega (arith, held.count, (periods A B s rows).within room)
 
+    pub links_long : n ≡ length (take n links)
+    links_long = omega (arith, held.count, ap length held.links_part, length-map v (λ (q : Period). q.link))
+
+    pub contexts_long : 2 * n ≡ length (take (2 * n) contexts)
+    contexts_long = omega (arith, held.count, ap length held.contexts_part, contexts_length v)
+
+    pub contexts_fit : 2 * length (take n links) ≤ length (take (2 * n) contexts)
+    contexts_fit = omega (arith, links_long, contexts_long)
+
+    pub twice_fits : room ≤ 65535 → Fits w64 (2 * n)
+    twice_fits short = let low = table_within in omega arith
+
     -- and the lassos can be tested
-    pub judge_ready : {u scratch₀ scratch : List ℕ} {t : ℕ} → Ready room t u links₀ contexts₀ scratch₀ → length scratch ≡ length scratch₀
-        → Few u (take n links) scratch t × (2 * length (take n links) ≤ length (take (2 * n) contexts))
-    judge_ready ready kept =
+    pub few : {u scratch : List ℕ} {t : ℕ} {lent : Lent} → Ready room t u lent → length scratch ≡ length lent.scratch.now → Few u (take n links) scratch t
+    few ready same =
         let low = table_within in
-        let long : length (take n links) ≡ length v = ap length held.links_part ∙ length-map v (λ (q : Period). q.link) in
-        let wide : length (take (2 * n) contexts) ≡ 2 * length v = ap length held.contexts_part ∙ contexts_length v in (
-          record {
-            stems = ready.stems;
-            periods = omega (arith, held.count, ready.short);
-            sets_fit = omega (arith, held.count, ready.scratch_fits);
-            tests = ready.few;
-          },
-          omega arith,
-        )
+        let long = links_long in
+        record { stems = ready.stems; periods = omega (arith, ready.short); sets_fit = omega (arith, ready.scratch_fits); tests = ready.few }
 
     kept : take (length v) links ≡ links_of v
     kept = ap (λ (k : ℕ). take k links) held.count ∙ held.links_part

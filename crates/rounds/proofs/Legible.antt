@@ -26,10 +26,10 @@ use Rattle.rounds.specs.Finished.{Legible}
 
 module _ {room : ℕ} {u links : List ℕ} {c : Tally} where
   pub through_legible : Legible room u links (Ok c)
-  through_legible = record { lasso = λ d l e. let z : ◌≡◌ {A = ℕ} 0 1 = cc in absurd (omega arith) }
+  through_legible = record { lasso = λ d l e. absurd cc }
 
   pub lacking_legible : Legible room u links (Err (Lacking c))
-  lacking_legible = record { lasso = λ d l e. let z : ◌≡◌ {A = ℕ} 0 1 = cc in absurd (omega arith) }
+  lacking_legible = record { lasso = λ d l e. absurd cc }
 
 -- ---- where one was
 

@@ -20,21 +20,7 @@ use Rattle.walk.proofs.Runs.{made, Ran, done, lacking, going, found, runs, run_i
 use Rattle.walk.proofs.Bounds.{round_tests, ran_made}
 use Rattle.walk.proofs.Cut.{periods}
 use Rattle.rounds.specs.Finished.{finish_of, Finished}
-use Rattle.rounds.specs.Round.{Ready}
 use Rattle.rounds.proofs.Legible.{through_legible}
-
--- the tables stay as long as they are
-pub ready_on : {room t m : ℕ} {u links₀ links contexts₀ contexts scratch₀ scratch : List ℕ} → Ready room t u links₀ contexts₀ scratch₀
-    → length links ≡ length links₀ → length contexts ≡ length contexts₀ → length scratch ≡ length scratch₀ → m ≤ 2 ^ 50 → Ready room m u links contexts scratch
-ready_on h l c s m = record {
-  stems = h.stems;
-  short = h.short;
-  links_fit = omega (arith, h.links_fit);
-  contexts_fit = omega (arith, h.contexts_fit);
-  scratch_fits = omega (arith, h.scratch_fits);
-  scratch_short = omega (arith, h.scratch_short);
-  few = m;
-}
 
 -- no round
 pub none_ran : (A B : Aut) (u : List ℕ) (room : ℕ) {cs : List (ℕ × ℕ)} {links : List ℕ} → cs ≡ [] → (c : Tally) → Finished A B u room cs c.p c.t (Ok c) links

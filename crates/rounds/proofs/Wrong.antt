@@ -15,7 +15,7 @@ module _ {A B : Aut} {u links : List ℕ} {room : ℕ} {cs : List (ℕ × ℕ)} 
   pub rejected_passed_over : {x y : Word} → (run A B u room cs p₀ t₀).verdict ≡ shown x y → Finished A B u room cs p₀ t₀ (Ok c) links → ⊥
   rejected_passed_over {x = x} {y = y} e h =
       let same : included ≡ shown x y = sym (ap (λ (f : Finish). f.verdict) h.finish) ∙ e in
-      let z : ◌≡◌ {A = ℕ} 0 1 = cc in absurd (omega arith)
+      absurd cc
 
   -- a period beyond the table
   pub period_beyond : {i n : ℕ} → Finished A B u room cs p₀ t₀ (Err (Found c (record { stem = i; period = n; size = n }))) links → ⊥

@@ -7,7 +7,7 @@ ghost use Rattle.bits.specs.Bits.{bit};
 ghost use Rattle.automata.specs.Loaded.{aut};
 ghost use Rattle.walk.specs.Walk.{round_at, rounds_at, rounds};
 ghost use Rattle.rounds.specs.Finished.{Finished};
-ghost use Rattle.rounds.specs.Round.{answered, Ready};
+ghost use Rattle.rounds.specs.Round.{answered, Ready, StillLent};
 
 use automata::{Model, Rule};
 use bits::entries;
@@ -45,6 +45,15 @@ struct Setting<'a> {
     rule: &'a Rule,
 }
 
+// What every round builds its period table in: the links and the contexts hold the entries. The scratch serves within a round, first the growth of the table
+// and then its tests: what it holds at the end of either does not matter.
+#[derive(Drop)]
+struct Lent<'a> {
+    links: &'a mut [u32],
+    contexts: &'a mut [u64],
+    scratch: &'a mut [u16],
+}
+
 // What the tests of a table of this size come to; before it, the largest table had `before` entries.
 fn counted(tests: Result<usize, Rejected>, before: usize, size: usize) -> Result<Tally, Stop>
     ensures { result ≡ answered size before tests }
@@ -64,26 +73,29 @@ fn counted(tests: Result<usize, Rejected>, before: usize, size: usize) -> Result
 }
 
 // The round of an entry of W, if it is at s: the period table afresh, then its lassos.
-fn round(
-    on: Setting,
-    entry: u32,
-    links: &mut [u32],
-    contexts: &mut [u64],
-    scratch: &mut [u16],
-    s: u8,
-    tally: Tally,
-) -> Result<Tally, Stop>
-    requires ready { Ready on.room tally.t on.stems.now links.old contexts.old scratch.old }
+fn round(on: Setting, entry: u32, lent: &mut Lent, s: u8, tally: Tally) -> Result<Tally, Stop>
+    requires ready { Ready on.room tally.t on.stems.now lent.old }
     requires s_bound { (s < 16) × (bit on.model.now.head.accepting s ≡ true) }
-    ensures { let A = aut on.entry.model.now in
-        Finished A (aut on.entry.rule.now) on.entry.stems.now on.entry.room (round_at A s entry) tally.p tally.t result links.new }
+    ensures lent { StillLent lent.old lent.new }
+    ensures finished { let A = aut on.entry.model.now in
+        Finished A (aut on.entry.rule.now) on.entry.stems.now on.entry.room (round_at A s entry) tally.p tally.t result lent.new.links.now }
 {
     if entries::stem_state(entry) != s {
         return Ok(tally);
     }
     let target = entries::stem_target(entry);
+    // Each is lent by itself, since the scratch is written meanwhile.
+    let links = &mut *lent.links;
+    let contexts = &mut *lent.contexts;
     let grown = periods::grow(
-        links, contexts, scratch, on.room, s, target, on.model, on.rule,
+        links,
+        contexts,
+        lent.scratch,
+        on.room,
+        s,
+        target,
+        on.model,
+        on.rule,
     );
     let Ok(n) = grown else {
         return Err(Stop::Lacking(Tally {
@@ -91,11 +103,13 @@ fn round(
             t: tally.t,
         }));
     };
+    let links = &*links;
+    let contexts = &*contexts;
     let tests = lassos::first_rejected(
         on.stems,
         &links[..n],
         &contexts[..2 * n],
-        scratch,
+        lent.scratch,
         s,
         target,
         tally.t,
@@ -107,50 +121,43 @@ fn round(
 fn at_state(
     on: Setting,
     largest: &[u32],
-    links: &mut [u32],
-    contexts: &mut [u64],
-    scratch: &mut [u16],
+    lent: &mut Lent,
     s: u8,
     before: Tally,
 ) -> Result<Tally, Stop>
-    requires ready { Ready on.room before.t on.stems.now links.old contexts.old scratch.old }
+    requires ready { Ready on.room before.t on.stems.now lent.old }
     requires s_bound { (s < 16) × (length largest.now ≤ 4096) × (before.t ≤ 2 ^ 48) }
-    ensures { let A = aut on.entry.model.now in
-        Finished A (aut on.entry.rule.now) on.entry.stems.now on.entry.room (rounds_at A largest.now s) before.p before.t result links.new }
+    ensures lent { StillLent lent.old lent.new }
+    ensures finished { let A = aut on.entry.model.now in
+        Finished A (aut on.entry.rule.now) on.entry.stems.now on.entry.room (rounds_at A largest.now s) before.p before.t result lent.new.links.now }
 {
     if !on.model.head.accepting.has(usize::from(s)) {
         return Ok(before);
     }
     let mut tally = before;
     for entry in largest {
-        tally = round(on, *entry, links, contexts, scratch, s, tally)?;
+        tally = round(on, *entry, lent, s, tally)?;
     }
     Ok(tally)
 }
 
-// The rounds of each state, rising. The scratch serves within a round, first the growth of its table and then its tests: what it holds at the end of
-// either does not matter.
-fn each_state(
-    on: Setting,
-    largest: &[u32],
-    links: &mut [u32],
-    contexts: &mut [u64],
-    scratch: &mut [u16],
-) -> Result<Tally, Stop>
-    requires ready { Ready on.room 0 on.stems.now links.old contexts.old scratch.old }
+// The rounds of each state, rising.
+fn each_state(on: Setting, largest: &[u32], lent: &mut Lent) -> Result<Tally, Stop>
+    requires ready { Ready on.room 0 on.stems.now lent.old }
     requires largest_len_bound { length largest.now ≤ 4096 }
-    ensures { let A = aut on.entry.model.now in let B = aut on.entry.rule.now in
-        Finished A B on.entry.stems.now on.entry.room (rounds A B largest.now) 0 0 result links.new }
+    ensures lent { StillLent lent.old lent.new }
+    ensures finished { let A = aut on.entry.model.now in let B = aut on.entry.rule.now in
+        Finished A B on.entry.stems.now on.entry.room (rounds A B largest.now) 0 0 result lent.new.links.now }
 {
     let mut tally = Tally { p: 0, t: 0 };
     for s in 0..16u8 {
-        tally = at_state(on, largest, links, contexts, scratch, s, tally)?;
+        tally = at_state(on, largest, lent, s, tally)?;
     }
     Ok(tally)
 }
 
 // A scratch for every room. The `ensures` gives the length, which lending it as a slice needs: of a long array that is a local, the elements are counted one
-// by one when it is checked.
+// by one when it is checked. (A function of any type and length would need a crate of its own, for this and one of samples.)
 fn large_scratch() -> [u16; 131102]
     ensures { 131102 ≡ length result }
 {
@@ -180,8 +187,18 @@ pub fn all(
     };
     if room <= 2048 {
         let mut small = [0u16; 8224];
-        return each_state(on, largest, links, contexts, &mut small);
+        let mut lent = Lent {
+            links,
+            contexts,
+            scratch: &mut small,
+        };
+        return each_state(on, largest, &mut lent);
     }
     let mut large = large_scratch();
-    each_state(on, largest, links, contexts, &mut large)
+    let mut lent = Lent {
+        links,
+        contexts,
+        scratch: &mut large,
+    };
+    each_state(on, largest, &mut lent)
 }

@@ -5,8 +5,8 @@
 
 ghost use Rattle.std.specs.Prelude.{◌≡◌, length};
 
-use inclusion::Letters;
-use search::Lent;
+use inclusion::{Answer, Letters};
+use search::{Lent, Room};
 use std::io;
 
 fn numbers(rt: &impl Print, row: [u64; 9]) -> io::Result<()> {
@@ -16,18 +16,18 @@ fn numbers(rt: &impl Print, row: [u64; 9]) -> io::Result<()> {
     println!(rt)
 }
 
-// The words that an answer shows are the first letters of the outputs; none are where the period's length is 0.
-fn shown(rt: &impl Print, row: [u64; 9], stem: &[u8], period: &[u8]) -> io::Result<()> {
-    if row[8] == 0 {
+// The words that an answer shows, if it does: the first letters of the outputs.
+fn shown(rt: &impl Print, answer: Answer, stem: &[u8], period: &[u8]) -> io::Result<()> {
+    let Answer::NotIncluded(_, lengths) = answer else {
         return Ok(());
-    }
+    };
     let stem = Letters {
         output: stem,
-        count: row[7] as usize,
+        count: lengths.stem,
     };
     let period = Letters {
         output: period,
-        count: row[8] as usize,
+        count: lengths.period,
     };
     println!(rt; " stem:{stem}\n period:{period}")
 }
@@ -40,117 +40,119 @@ fn zeroes<T: Copy + Default, const N: usize>() -> [T; N]
     [T::default(); N]
 }
 
-// The nine numbers of an answer, with tables that are long enough for every S and P here.
-fn decided(
-    model: &[u8],
-    rule: &[u8],
-    stem_room: usize,
-    period_room: usize,
-    stem: &mut [u8],
-    period: &mut [u8],
-) -> [u64; 9] {
-    let mut smallest = [0u32; 4097];
-    let mut largest = [0u32; 4097];
-    let mut links = zeroes::<u32, 65536>();
-    let mut contexts = zeroes::<u64, 131072>();
-    let mut lent = Lent {
-        smallest: &mut smallest,
-        largest: &mut largest,
-        links: &mut links,
-        contexts: &mut contexts,
-        stem,
-        period,
-    };
-    inclusion::numbers(inclusion::decide(model, rule, stem_room, period_room, &mut lent))
-}
-
-// The name of a sample, and its room: numbers, which are cheaper to check than a text for each.
-fn heading(rt: &impl Print, sample: u64, stem_room: usize, period_room: usize) -> io::Result<()> {
-    print!(rt; "M{sample} S = {stem_room}, P = {period_room}:")
-}
-
-// One sample, with a stem output that the caller lends.
-fn lent(
-    rt: &impl Print,
+// One case of a sample, by the sample's number, which is cheaper to check than a text for each.
+#[derive(Clone, Copy)]
+struct Case<'a> {
     sample: u64,
-    model: &[u8],
-    rule: &[u8],
-    stem_room: usize,
-    period_room: usize,
-    stem: &mut [u8],
-) -> io::Result<()> {
-    let mut period = zeroes::<u8, 65536>();
-    let row = decided(model, rule, stem_room, period_room, stem, &mut period);
-    heading(rt, sample, stem_room, period_room)?;
-    numbers(rt, row)?;
-    shown(rt, row, stem, &period)
+    model: &'a [u8],
+    rule: &'a [u8],
+    room: Room,
 }
 
-// One sample, with a stem output that is long enough.
-fn decide(
-    rt: &impl Print,
-    sample: u64,
-    model: &[u8],
-    rule: &[u8],
-    stem_room: usize,
-    period_room: usize,
-) -> io::Result<()> {
-    let mut stem = [0u8; 4097];
-    lent(rt, sample, model, rule, stem_room, period_room, &mut stem)
+impl<'a> Case<'a> {
+    // With the program's room.
+    fn new(sample: u64, model: &'a [u8], rule: &'a [u8]) -> Case<'a> {
+        let room = Room {
+            stems: 4096,
+            periods: 2048,
+        };
+        Case {
+            sample,
+            model,
+            rule,
+            room,
+        }
+    }
+
+    // Under a rule that accepts nothing.
+    fn under_nothing(sample: u64, model: &'a [u8]) -> Case<'a> {
+        Case::new(sample, model, b"I\0\0\0")
+    }
+
+    fn with_room(self, stems: usize, periods: usize) -> Case<'a> {
+        Case {
+            room: Room { stems, periods },
+            ..self
+        }
+    }
+
+    // The answer, with tables that are long enough for every S and P here.
+    fn decided(self, stem: &mut [u8], period: &mut [u8]) -> Answer {
+        let mut smallest = [0u32; 4097];
+        let mut largest = [0u32; 4097];
+        let mut links = zeroes::<u32, 65536>();
+        let mut contexts = zeroes::<u64, 131072>();
+        let mut lent = Lent {
+            smallest: &mut smallest,
+            largest: &mut largest,
+            links: &mut links,
+            contexts: &mut contexts,
+            stem,
+            period,
+        };
+        inclusion::decide(self.model, self.rule, self.room, &mut lent)
+    }
+
+    // Prints the case and its answer, with a stem output that the caller lends.
+    fn lent(self, rt: &impl Print, stem: &mut [u8]) -> io::Result<()> {
+        let mut period = zeroes::<u8, 65536>();
+        let answer = self.decided(stem, &mut period);
+        let Room { stems, periods } = self.room;
+        print!(rt; "M{} S = {stems}, P = {periods}:", self.sample)?;
+        numbers(rt, inclusion::numbers(answer))?;
+        shown(rt, answer, stem, &period)
+    }
+
+    // The same with a stem output that is long enough.
+    fn print(self, rt: &impl Print) -> io::Result<()> {
+        let mut stem = [0u8; 4097];
+        self.lent(rt, &mut stem)
+    }
 }
 
 // M1 to M3: verdicts.
 fn verdicts(rt: &impl Print, all: &[u8], often: &[u8]) -> io::Result<()> {
-    decide(rt, 1, all, often, 4096, 2048)?;
-    decide(rt, 2, often, all, 4096, 2048)?;
-    decide(rt, 3, often, often, 4096, 2048)
-}
-
-// One sample under a rule that accepts nothing.
-fn under_nothing(rt: &impl Print, sample: u64, model: &[u8]) -> io::Result<()> {
-    decide(rt, sample, model, b"I\0\0\0", 4096, 2048)
+    Case::new(1, all, often).print(rt)?;
+    Case::new(2, often, all).print(rt)?;
+    Case::new(3, often, often).print(rt)
 }
 
 // M4 and M5: no accepting state, and one.
 fn accepting(rt: &impl Print) -> io::Result<()> {
-    under_nothing(rt, 4, b"I\0\0\0T\0\0\0")?;
-    under_nothing(rt, 5, b"I\0\0\0T\0\0\0F\0\0\0")
+    Case::under_nothing(4, b"I\0\0\0T\0\0\0").print(rt)?;
+    Case::under_nothing(5, b"I\0\0\0T\0\0\0F\0\0\0").print(rt)
 }
 
 // M6 and M7: room.
 fn room(rt: &impl Print, all: &[u8], often: &[u8]) -> io::Result<()> {
-    decide(rt, 6, all, often, 1, 2048)?;
-    decide(rt, 6, all, often, 2, 2048)?;
-    decide(rt, 7, all, often, 4096, 1)?;
-    decide(rt, 7, all, often, 4096, 2)
+    Case::new(6, all, often).with_room(1, 2048).print(rt)?;
+    Case::new(6, all, often).with_room(2, 2048).print(rt)?;
+    Case::new(7, all, often).with_room(4096, 1).print(rt)?;
+    Case::new(7, all, often).with_room(4096, 2).print(rt)
 }
 
-// M10: a model's largest state, and one more.
-fn model_states(rt: &impl Print) -> io::Result<()> {
-    under_nothing(rt, 10, b"I\x0f\0\0")?;
-    under_nothing(rt, 10, b"I\x10\0\0")
-}
-
-// M11: a rule's largest state, and one more.
-fn rule_states(rt: &impl Print) -> io::Result<()> {
-    let start = b"I\0\0\0";
-    decide(rt, 11, start, b"I\x07\0\0", 4096, 2048)?;
-    decide(rt, 11, start, b"I\x08\0\0", 4096, 2048)
+// M10 and M11: a model's largest state, and one more; and so a rule's.
+fn states(rt: &impl Print) -> io::Result<()> {
+    Case::under_nothing(10, b"I\x0f\0\0").print(rt)?;
+    Case::under_nothing(10, b"I\x10\0\0").print(rt)?;
+    Case::new(11, b"I\0\0\0", b"I\x07\0\0").print(rt)?;
+    Case::new(11, b"I\0\0\0", b"I\x08\0\0").print(rt)
 }
 
 // M12: files without a whole record.
 fn cut_short(rt: &impl Print) -> io::Result<()> {
-    under_nothing(rt, 12, b"")?;
-    under_nothing(rt, 12, b"I\0\0")
+    Case::under_nothing(12, b"").print(rt)?;
+    Case::under_nothing(12, b"I\0\0").print(rt)
 }
 
 // M13: room out of range, and a stem output that is too short.
 fn limits(rt: &impl Print, all: &[u8], often: &[u8]) -> io::Result<()> {
-    decide(rt, 13, all, often, 0, 2048)?;
-    decide(rt, 13, all, often, 4097, 2048)?;
-    decide(rt, 13, all, often, 4096, 65536)?;
+    let case = Case::new(13, all, often);
+    case.with_room(0, 2048).print(rt)?;
+    case.with_room(4097, 2048).print(rt)?;
+    case.with_room(4096, 65536).print(rt)?;
     let mut short = [0u8; 4095];
-    lent(rt, 13, all, often, 4096, 2048, &mut short)
+    case.lent(rt, &mut short)
 }
 
 fn main(rt: HostRuntime) -> io::Result<()> {
@@ -159,8 +161,7 @@ fn main(rt: HostRuntime) -> io::Result<()> {
     verdicts(&rt, all, often)?;
     accepting(&rt)?;
     room(&rt, all, often)?;
-    model_states(&rt)?;
-    rule_states(&rt)?;
+    states(&rt)?;
     cut_short(&rt)?;
     limits(&rt, all, often)
 }

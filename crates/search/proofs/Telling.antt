@@ -1,196 +1,148 @@
 -- How the walk ends, from what the two stem tables and the rounds answer. Assumes nothing.
-use mathlib.Core.Path.{◌≡◌, refl, sym, ap, ap₂, ◌∙◌}
+use mathlib.Core.Path.{◌≡◌, refl, sym, ap, ◌∙◌}
 use mathlib.Core.Logic.{inr}
 use mathlib.Core.Bool.{Bool, true, false}
-use mathlib.Core.List.{List}
+use mathlib.Core.List.{List, ◌++◌}
 use Rattle.std.specs.Prelude.{Result, Ok, Err}
-use Prim.Native.Nat.{ℕ, ◌*◌, ◌≤◌, ◌<◌}
+use Rattle.std.proofs.lemmas.Slice.{drop-append-drop}
+use Prim.Native.Nat.{ℕ, ◌*◌, ◌≤◌}
 use native.Mathlib.Omega.{arith}
 use borrow.Author.Tests.{eqb-false}
-use lib.ListN.{length, take}
-use lib.Seq.{length-take-le}
+use lib.ListN.{length, take, drop, length-append, length-drop}
 use Rattle.acceptance.specs.Lasso.{Aut}
-use Rattle.acceptance.specs.Contexts.{Small}
-use Rattle.growth.specs.Grow.{ended, full, entries}
-use Rattle.growth.specs.Numbered.{Bounded}
+use Rattle.growth.specs.Grow.{ended, entries}
 use Rattle.growth.specs.Lent.{over}
 use Rattle.growth.specs.declared.Full.{Full}
-use Rattle.growth.proofs.Offering.{ended_is, full_is, take_over, over_length}
+use Rattle.growth.proofs.Offering.{ended_is, full_is, take_over}
 use Rattle.stems.specs.Stems.{stem_table}
 use Rattle.stems.specs.Held.{Held}
 use Rattle.stems.proofs.Parents.{stem_parents}
-use Rattle.walk.specs.Words.{stem_word, period_word}
 use Rattle.walk.specs.Walk.{Finish, rounds, run, walk}
-use Rattle.spelling.specs.Written.{Backward, Written}
+use Rattle.spelling.specs.Written.{Backward}
 use Rattle.rounds.specs.declared.Tally.{Tally}
-use Rattle.rounds.specs.declared.Lasso.{Lasso}
 use Rattle.rounds.specs.declared.Stop.{Stop}
-use Rattle.rounds.specs.declared.Stop.TheVariants.{Found}
-use Rattle.rounds.specs.Finished.{finish_of, Legible}
+use lib.Seq.{length-take-le}
+use Rattle.rounds.specs.Finished.{Legible}
 use Rattle.search.specs.declared.Ending.{Ending}
-use Rattle.search.specs.declared.Ending.TheVariants.{Shown, StemsFull}
+use Rattle.search.specs.declared.Ending.TheVariants.{StemsFull}
 use Rattle.search.specs.Ending.{ending_by, stem_shown, period_shown, Buffers}
-use Rattle.search.specs.Contract.{Prepared, Told, Showable, Shows}
+use Rattle.search.specs.Contract.{Kept, Prepared, Told, Showable, Shows}
 use Rattle.walk.proofs.Runs.{u_full, w_full, ran, runs, walk_is}
 use Rattle.walk.proofs.Cut.{stems}
 
--- ---- exact parts of the links and the contexts are lent
+module _ {A B : Aut} {S P : ℕ} {lent : Buffers} (ready : Prepared A B S P lent) where
+  -- ---- a stem table that was grown
 
-pub parts_prepared : {A B : Aut} {S P : ℕ} {smallest largest links contexts stem period : List ℕ}
-    → Prepared A B S P (record { smallest = smallest; largest = largest; links = links; contexts = contexts; stem = stem; period = period })
-    → Prepared A B S P (record { smallest = smallest; largest = largest; links = take P links; contexts = take (2 * P) contexts; stem = stem; period = period })
-parts_prepared {P = P} {links = links} {contexts = contexts} h = record {
-  some_stems = h.some_stems;
-  few_stems = h.few_stems;
-  some_periods = h.some_periods;
-  few_periods = h.few_periods;
-  smallest_fits = h.smallest_fits;
-  largest_fits = h.largest_fits;
-  links_fit = let m = h.links_fit in omega (arith, length-take-le P links (omega arith));
-  contexts_fit = let m = h.contexts_fit in omega (arith, length-take-le (2 * P) contexts (omega arith));
-  stem_fits = h.stem_fits;
-  period_fits = h.period_fits;
-  bounded = h.bounded;
-  small = h.small;
-}
-
--- ---- a stem table that was grown
-
-module _ (A B : Aut) (S : ℕ) (largest : Bool) {g : Result ℕ Full} {old new : List ℕ} (h : Held (stem_table A B largest S) old new g) where
-  record HoldsStems (n : ℕ) : Type 0 where
+  -- n entries, which are its first elements
+  pub record There (largest : Bool) (table : List ℕ) (n : ℕ) : Type 0 where
     pub is_ended : stem_table A B largest S ≡ ended (entries (stem_table A B largest S))
-    pub count : length (entries (stem_table A B largest S)) ≡ n
-    pub part : take n new ≡ entries (stem_table A B largest S)
+    pub part : take n table ≡ entries (stem_table A B largest S)
+    pub count : length (take n table) ≡ n
     pub within : n ≤ S
 
-  holds_stems : {n : ℕ} → g ≡ Ok n → HoldsStems n
-  holds_stems {n} e =
-      let (is, count) = ended_is (stem_table A B largest S) (sym e ∙ h.answer) in
-      let all : n ≡ length (entries (stem_table A B largest S)) = omega arith in
+  pub there : (largest : Bool) {old new : List ℕ} {n : ℕ} → Held (stem_table A B largest S) old new (Ok n) → There largest new n
+  there largest {old} {new} {n} h =
+      let (is, count) = ended_is (stem_table A B largest S) h.answer in
+      let part : take n new ≡ entries (stem_table A B largest S) = rw (h.holds, ← count) (take_over (entries (stem_table A B largest S)) old) in
+      record { is_ended = is; part = part; count = ap length part ∙ count; within = omega (arith, (stems A B largest).within S) }
+
+  -- parents come before their children
+  stems_back : {old new : List ℕ} {n : ℕ} → Held (stem_table A B false S) old new (Ok n) → Backward false (take n new)
+  stems_back {new = new} {n} h =
+      let u = there false h in
+      rw u.part (record {
+        short = omega (arith, ap length u.part, ready.enough.few_stems);
+        parents = λ i l e. let z = eqb-false i 0 e in inr (stem_parents ready.bounded ready.small false S i (omega arith) l);
+      })
+
+  -- the lasso that the rounds may find can be shown
+  pub showable : {old smallest links : List ℕ} {n : ℕ} {r : Result Tally Stop} → Held (stem_table A B false S) old smallest (Ok n) → Legible P (take n smallest) links r
+      → length links ≡ length (take P lent.links) → Showable (take n smallest) links lent.stem lent.period r
+  showable h legible e =
+      let u = there false h in
+      let long = length-take-le P lent.links ready.enough.links_fit in
       record {
-        is_ended = is;
-        count = count;
-        part = ap₂ (λ (k : ℕ) (l : List ℕ). take k l) all h.holds ∙ take_over (entries (stem_table A B largest S)) old;
-        within = omega (arith, (stems A B largest).within S);
+        room = P;
+        legible = legible;
+        stems_back = stems_back h;
+        stem_fits = omega (arith, ready.enough.stem_fits);
+        links_fit = omega arith;
+        period_fits = ready.enough.period_fits;
       }
 
-  pub stems_fit : {n : ℕ} → g ≡ Ok n → S ≤ length old → n ≤ length new
-  stems_fit e l =
-      let a = holds_stems e in
-      omega (arith, a.count, a.within, ap length h.holds ∙ over_length (entries (stem_table A B largest S)) old (omega (arith, (stems A B largest).within S)))
+-- the first n numbers, lent by themselves
+pub part_kept : {n : ℕ} {old : List ℕ} (part : List ℕ) → n ≤ length old → length part ≡ length (take n old) → Kept n old (part ++ drop n old)
+part_kept {n} {old} part l e =
+    let long = e ∙ length-take-le n old l in
+    record { long = simp (length-append, length-drop) (omega arith); beyond = drop-append-drop n old part n (omega arith) long }
 
-  full_stems : {err : Full} → g ≡ Err err → (stem_table A B largest S ≡ full (entries (stem_table A B largest S))) × (length (entries (stem_table A B largest S)) ≡ S)
-  full_stems e = let is = full_is (stem_table A B largest S) (sym e ∙ h.answer) in (is, (stems A B largest).filled S _ is)
+-- ---- what the walk leaves
 
--- parents come before their children
-stems_back : {A B : Aut} → Bounded 16 16 A → Small 8 B → {S : ℕ} → S ≤ 4096 → Backward false (entries (stem_table A B false S))
-stems_back {A} {B} bound small {S} few = record {
-  short = omega (arith, (stems A B false).within S);
-  parents = λ i l h. let z = eqb-false i 0 h in inr (stem_parents bound small false S i (omega arith) l);
-}
+module _ {A B : Aut} {S P : ℕ} {old : Buffers} (ready : Prepared A B S P old) {smallest : List ℕ} where
+  -- U lacks room
+  pub told_u : {err : Full} {e : Ending} → Held (stem_table A B false S) old.smallest smallest (Err err) → e ≡ StemsFull 0 (record { u = S; w = 0; p = 0; t = 0 })
+      → Told (walk A B S P) P old (record { smallest = smallest; largest = old.largest; links = old.links; contexts = old.contexts; stem = old.stem; period = old.period }) e
+  unfolding ending_by over stem_shown period_shown
+  told_u hu is =
+      let full = full_is (stem_table A B false S) hu.answer in
+      let count = (stems A B false).filled S _ full in
+      rw (walk_is (u_full _ full), is)
+      (record {
+        answer = cc;
+        smallest_left = hu.holds;
+        largest_left = refl;
+        links_kept = record { long = refl; beyond = refl };
+        contexts_kept = record { long = refl; beyond = refl };
+        stem_left = refl;
+        period_left = refl;
+      })
 
--- ---- both stem tables are there, and the rounds can begin
+  -- W does
+  pub told_w : {err : Full} {u : ℕ} {largest : List ℕ} {e : Ending} → Held (stem_table A B false S) old.smallest smallest (Ok u) → Held (stem_table A B true S) old.largest largest (Err err)
+      → e ≡ StemsFull 1 (record { u = u; w = S; p = 0; t = 0 })
+      → Told (walk A B S P) P old (record { smallest = smallest; largest = largest; links = old.links; contexts = old.contexts; stem = old.stem; period = old.period }) e
+  unfolding ending_by over stem_shown period_shown
+  told_w hu hw is =
+      let u = there ready false hu in
+      let full = full_is (stem_table A B true S) hw.answer in
+      let count = (stems A B true).filled S _ full in
+      rw (walk_is (w_full _ _ u.is_ended full), is)
+      (record {
+        answer = cc;
+        smallest_left = hu.holds;
+        largest_left = hw.holds;
+        links_kept = record { long = refl; beyond = refl };
+        contexts_kept = record { long = refl; beyond = refl };
+        stem_left = refl;
+        period_left = refl;
+      })
 
-pub record Grown (P : ℕ) (u w links contexts stem period : List ℕ) : Type 0 where
-  pub short : P ≤ 65535
-  pub u_few : length u ≤ 4096
-  pub w_few : length w ≤ 4096
-  pub u_back : Backward false u
-  pub links_fit : P ≤ length links
-  pub contexts_fit : 2 * P ≤ length contexts
-  pub stem_fits : length u ≤ length stem
-  pub period_fits : P ≤ length period
-
--- the lasso that they may find can be shown
-pub showable : {P : ℕ} {u w links₀ links contexts stem period : List ℕ} {r : Result Tally Stop} → Grown P u w links₀ contexts stem period → length links ≡ length links₀
-    → Legible P u links r → Showable u links stem period r
-showable {P} h same l = record {
-  room = P;
-  legible = l;
-  stems_back = h.u_back;
-  stem_fits = h.stem_fits;
-  links_fit = omega (arith, h.links_fit);
-  period_fits = h.period_fits;
-}
-
-module _ (A B : Aut) (S P : ℕ) where
-  -- ---- both are there
-
-  module _ {old : Buffers} (ready : Prepared A B S P old) {smallest largest : List ℕ} {g k : Result ℕ Full} (hu : Held (stem_table A B false S) old.smallest smallest g)
-      (hw : Held (stem_table A B true S) old.largest largest k) {u w : ℕ} (eu : g ≡ Ok u) (ew : k ≡ Ok w) where
-    U : List ℕ
-    U = entries (stem_table A B false S)
-
-    W : List ℕ
-    W = entries (stem_table A B true S)
-
-    pub grown : Grown P (take u smallest) (take w largest) old.links old.contexts old.stem old.period
-    unfolding U W
-    grown =
-        let a = holds_stems A B S false hu eu in
-        let b = holds_stems A B S true hw ew in
-        rw (a.part, b.part) (record {
-          short = ready.few_periods;
-          u_few = omega (arith, a.count, a.within, ready.few_stems);
-          w_few = omega (arith, b.count, b.within, ready.few_stems);
-          u_back = stems_back ready.bounded ready.small ready.few_stems;
-          links_fit = ready.links_fit;
-          contexts_fit = ready.contexts_fit;
-          stem_fits = omega (arith, a.count, a.within, ready.stem_fits);
-          period_fits = ready.period_fits;
-        })
-
-    pub told_rounds : {f : Finish} {links contexts stem period : List ℕ} {e : Ending} → run A B (take u smallest) P (rounds A B (take w largest)) 0 0 ≡ f
-        → Shows (length (take u smallest)) (length (take w largest)) f old.stem stem old.period period e
-        → Told (walk A B S P) old (record { smallest = smallest; largest = largest; links = links; contexts = contexts; stem = stem; period = period }) e
-    unfolding U W
-    told_rounds {f} {stem = stem} {period = period} {e = e} is s =
-        let a = holds_stems A B S false hu eu in
-        let b = holds_stems A B S true hw ew in
-        let ran_to : run A B U P (rounds A B W) 0 0 ≡ f = rw (a.part, b.part) at is in
-        let t : Shows (length U) (length W) f old.stem stem old.period period e = rw (a.part, b.part) at s in
-        rw (walk_is (ran U W a.is_ended b.is_ended (runs A B U P (rounds A B W) 0 0)), ran_to)
-        (record { answer = t.answer; smallest_left = hu.holds; largest_left = hw.holds; stem_left = t.stem_left; period_left = t.period_left })
-
-  -- ---- one of them lacks room
-
-  module _ {old : Buffers} {smallest : List ℕ} {g : Result ℕ Full} (hu : Held (stem_table A B false S) old.smallest smallest g) where
-    pub told_u : {err : Full} → g ≡ Err err → Told (walk A B S P) old (record { smallest = smallest; largest = old.largest; links = old.links; contexts = old.contexts; stem = old.stem; period = old.period })
-        (StemsFull 0 (record { u = S; w = 0; p = 0; t = 0 }))
-    unfolding ending_by over stem_shown period_shown
-    told_u e =
-        let (is, count) = full_stems A B S false hu e in
-        rw (walk_is (u_full (entries (stem_table A B false S)) is))
-        (record { answer = ap (λ (n : ℕ). StemsFull 0 (record { u = n; w = 0; p = 0; t = 0 })) (sym count); smallest_left = hu.holds; largest_left = refl; stem_left = refl; period_left = refl })
-
-    pub told_w : {err : Full} {u : ℕ} {largest : List ℕ} {k : Result ℕ Full} → g ≡ Ok u → Held (stem_table A B true S) old.largest largest k → k ≡ Err err
-        → Told (walk A B S P) old (record { smallest = smallest; largest = largest; links = old.links; contexts = old.contexts; stem = old.stem; period = old.period })
-        (StemsFull 1 (record { u = u; w = S; p = 0; t = 0 }))
-    unfolding ending_by over stem_shown period_shown
-    told_w eu hw ew =
-        let a = holds_stems A B S false hu eu in
-        let (is, count) = full_stems A B S true hw ew in
-        rw (walk_is (w_full (entries (stem_table A B false S)) (entries (stem_table A B true S)) a.is_ended is))
-        (record {
-          answer = ap₂ (λ (n m : ℕ). StemsFull 1 (record { u = n; w = m; p = 0; t = 0 })) (sym a.count) (sym count);
-          smallest_left = hu.holds;
-          largest_left = hw.holds;
-          stem_left = refl;
-          period_left = refl;
-        })
-
--- ---- both words of a lasso were written
-
-pub lasso_shown : (u links : List ℕ) (m w : ℕ) (c : Tally) (l : Lasso) {a b : ℕ} {stem₀ stem period₀ period : List ℕ} → Written (stem_word u l.stem) a stem₀ stem → Written (period_word (take l.size links) l.period) b period₀ period
-    → Shows m w (finish_of u links (Err (Found c l))) stem₀ stem period₀ period (Shown (record { u = m; w = w; p = c.p; t = c.t }) (record { stem = a; period = b }))
-unfolding ending_by stem_shown period_shown
-lasso_shown u links m w c l s v =
-    record { answer = ap₂ (λ (a b : ℕ). Shown (record { u = m; w = w; p = c.p; t = c.t }) (record { stem = a; period = b })) s.letters v.letters; stem_left = s.bytes; period_left = v.bytes }
-
--- the part that is lent for the period's word
-pub period_legible : {u links stem period : List ℕ} {c : Tally} {l : Lasso} → Showable u links stem period (Err (Found c l))
-    → Backward true (take l.size links) × ((l.period < length (take l.size links)) × (length (take l.size links) ≤ length period))
-period_legible {links = links} {c = c} {l} h =
-    let (_, low, within, back) = h.legible.lasso c l refl in
-    let long : length (take l.size links) ≡ l.size = length-take-le l.size links (omega (arith, h.links_fit)) in
-    (back, (omega (arith, low), omega (arith, h.period_fits)))
+  -- the rounds are made
+  pub told_rounds : {u w : ℕ} {largest links contexts stem period : List ℕ} {f : Finish} {e : Ending}
+      → Held (stem_table A B false S) old.smallest smallest (Ok u) → Held (stem_table A B true S) old.largest largest (Ok w)
+      → Kept P old.links links → Kept (2 * P) old.contexts contexts
+      → run A B (take u smallest) P (rounds A B (take w largest)) 0 0 ≡ f → Shows (length (take u smallest)) w f old.stem stem old.period period e
+      → Told (walk A B S P) P old (record {
+        smallest = smallest;
+        largest = largest;
+        links = links;
+        contexts = contexts;
+        stem = stem;
+        period = period;
+      }) e
+  told_rounds hu hw links contexts ran_to s =
+      let u = there ready false hu in
+      let w = there ready true hw in
+      let w_count : length (entries (stem_table A B true S)) ≡ _ = ap length (sym w.part) ∙ w.count in
+      let ran_to = rw (u.part, w.part) at ran_to in
+      let s = rw (u.part, ← w_count) at s in
+      rw (walk_is (ran _ _ u.is_ended w.is_ended (runs A B _ P _ 0 0)), ran_to)
+      (record {
+        answer = s.answer;
+        smallest_left = hu.holds;
+        largest_left = hw.holds;
+        links_kept = links;
+        contexts_kept = contexts;
+        stem_left = s.stem_left;
+        period_left = s.period_left;
+      })

@@ -1,5 +1,5 @@
 -- What the walk is given, and what it then leaves. Assumes nothing.
-use Rattle.std.specs.Prelude.{◌≡◌, false, List, ℕ, ◌*◌, ◌≤◌, Result, length}
+use Rattle.std.specs.Prelude.{◌≡◌, false, List, ℕ, ◌*◌, ◌≤◌, Result, length, drop}
 use Rattle.acceptance.specs.Lasso.{Aut}
 use Rattle.acceptance.specs.Contexts.{Small}
 use Rattle.growth.specs.Numbered.{Bounded}
@@ -33,8 +33,8 @@ pub record StillLent (old new : Lent) : Type 0 where
   pub stem : new.stem.ghost_name ≡ old.stem.ghost_name
   pub period : new.period.ghost_name ≡ old.period.ghost_name
 
--- S and P in range, lent tables and outputs that are long enough, and automata of few states and letters
-pub record Prepared (A B : Aut) (S P : ℕ) (lent : Buffers) : Type 0 where
+-- S and P in range, and lent tables and outputs that are long enough for them
+pub record Enough (S P : ℕ) (lent : Buffers) : Type 0 where
   pub some_stems : 1 ≤ S
   pub few_stems : S ≤ 4096
   pub some_periods : 1 ≤ P
@@ -45,14 +45,25 @@ pub record Prepared (A B : Aut) (S P : ℕ) (lent : Buffers) : Type 0 where
   pub contexts_fit : 2 * P ≤ length lent.contexts
   pub stem_fits : S ≤ length lent.stem
   pub period_fits : P ≤ length lent.period
+
+-- with them, automata of few states and letters
+pub record Prepared (A B : Aut) (S P : ℕ) (lent : Buffers) : Type 0 where
+  pub enough : Enough S P lent
   pub bounded : Bounded 16 16 A
   pub small : Small 8 B
 
+-- a buffer in which the first n numbers alone may differ
+pub record Kept (n : ℕ) (old new : List ℕ) : Type 0 where
+  pub long : length new ≡ length old
+  pub beyond : drop n new ≡ drop n old
+
 -- the answer of a walk, and what it leaves in the buffers, before the links and the contexts are cleared
-pub record Told (r : Walked) (old new : Buffers) (e : Ending) : Type 0 where
+pub record Told (r : Walked) (P : ℕ) (old new : Buffers) (e : Ending) : Type 0 where
   pub answer : e ≡ ending_of r
   pub smallest_left : new.smallest ≡ over r.smallest old.smallest
   pub largest_left : new.largest ≡ over r.largest old.largest
+  pub links_kept : Kept P old.links new.links
+  pub contexts_kept : Kept (2 * P) old.contexts new.contexts
   pub stem_left : new.stem ≡ over (stem_shown r.finish.verdict) old.stem
   pub period_left : new.period ≡ over (period_shown r.finish.verdict) old.period
 

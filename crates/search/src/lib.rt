@@ -1,8 +1,9 @@
 //! The walk on loaded automata and lent tables.
 #![tactic(auto)]
 
-ghost use Rattle.std.specs.Prelude.{◌≡◌, length};
+ghost use Rattle.std.specs.Prelude.{◌≡◌, ◌*◌, ◌≤◌, length, replicate};
 ghost use Rattle.automata.specs.Loaded.{aut};
+ghost use Rattle.growth.specs.Lent.{over};
 ghost use Rattle.walk.specs.Walk.{walk};
 ghost use Rattle.rounds.specs.Finished.{finish_of};
 ghost use Rattle.search.specs.declared.Ending.TheVariants.{StemsFull};
@@ -12,6 +13,13 @@ use automata::{Model, Rule};
 use rounds::{Stop, Tally};
 use spelling::{PeriodLink, StemEntry};
 use std::fmt;
+
+// How many entries there may be: of each stem table S, of a period table P.
+#[derive(Clone, Copy)]
+pub struct Room {
+    pub stems: usize,
+    pub periods: usize,
+}
 
 // The six lent buffers.
 #[derive(Drop)]
@@ -46,7 +54,8 @@ pub struct Lengths {
     pub period: usize,
 }
 
-// How the walk ends: no lasso was rejected, one was and is shown, or a table lacks room (a stem table: 0 for U, 1 for W).
+// How the walk ends: no lasso was rejected, one was and is shown, or a table lacks room (a stem table: 0 for U, 1 for W, which is
+// the refusal's `which`). No Result: none of the four is handed on by a `?`, and each has its counts.
 #[derive(Clone, Copy)]
 pub enum Ending {
     Included(Counts),
@@ -64,6 +73,7 @@ fn counted(u: usize, w: usize, tally: Tally) -> Counts
 }
 
 // Writes the words of a rejected lasso, if there is one, and says how the walk ends.
+#[tactic(auto, unfolding(crate::specs::Ending::ending_by, crate::specs::Ending::stem_shown, crate::specs::Ending::period_shown, growth::specs::Lent::over))]
 fn show(
     found: Result<Tally, Stop>,
     stems: &[u32],
@@ -100,65 +110,48 @@ fn stems_full(table: u8, u: usize, w: usize) -> Ending
     Ending::StemsFull(table, counted(u, w, Tally { p: 0, t: 0 }))
 }
 
-// Both stem tables, the rounds, and the words of the lasso that they may find. The links and the contexts are left as the last period table has them.
-fn tell(
-    model: &Model,
-    rule: &Rule,
-    stem_room: usize,
-    period_room: usize,
-    smallest: &mut [u32],
-    largest: &mut [u32],
-    links: &mut [u32],
-    contexts: &mut [u64],
-    stem: &mut [u8],
-    period: &mut [u8],
-) -> Ending
-    requires { Prepared (aut model.now) (aut rule.now) stem_room period_room
-        (record { smallest = smallest.old; largest = largest.old; links = links.old; contexts = contexts.old; stem = stem.old; period = period.old }) }
-    ensures { Told (walk (aut model.now) (aut rule.now) stem_room period_room)
-        (record { smallest = smallest.old; largest = largest.old; links = links.old; contexts = contexts.old; stem = stem.old; period = period.old })
-        (record { smallest = smallest.new; largest = largest.new; links = links.new; contexts = contexts.new; stem = stem.new; period = period.new })
-        result }
+// Both stem tables, the rounds, and the words of the lasso that they may find. The first links and contexts are left as the last period table has them.
+#[tactic(auto, unfolding(automata::specs::Loaded::aut_of))]
+fn tell(model: &Model, rule: &Rule, room: Room, lent: &mut Lent) -> Ending
+    requires { Prepared (aut model.now) (aut rule.now) room.stems room.periods (contents lent.old) }
+    ensures lent { StillLent lent.old lent.new }
+    ensures told { Told (walk (aut model.now) (aut rule.now) room.stems room.periods) room.periods (contents lent.old) (contents lent.new) result }
 {
-    let first = stems::grow(smallest, stem_room, model, rule, false);
+    let first = stems::grow(lent.smallest, room.stems, model, rule, false);
     let Ok(u) = first else {
-        return stems_full(0, stem_room, 0);
+        return stems_full(0, room.stems, 0);
     };
-    let second = stems::grow(largest, stem_room, model, rule, true);
+    let second = stems::grow(lent.largest, room.stems, model, rule, true);
     let Ok(w) = second else {
-        return stems_full(1, u, stem_room);
+        return stems_full(1, u, room.stems);
     };
-    let u_table = &smallest[..u];
-    let w_table = &largest[..w];
-    let found = rounds::all(u_table, w_table, links, contexts, period_room, model, rule);
-    show(found, u_table, w_table.len(), links, stem, period)
+    // Each part is lent by itself.
+    let u_table = &mut lent.smallest[..u];
+    let w_table = &mut lent.largest[..w];
+    let links = &mut lent.links[..room.periods];
+    let contexts = &mut lent.contexts[..2 * room.periods];
+    let found = rounds::all(u_table, w_table, links, contexts, room.periods, model, rule);
+    show(found, u_table, w, links, lent.stem, lent.period)
+}
+
+// Zeroes in place of the links and the contexts of so many periods.
+#[tactic(auto, unfolding(growth::specs::Lent::over))]
+fn clear(links: &mut [u32], contexts: &mut [u64], periods: usize)
+    requires { (periods ≤ length links.old) × (2 * periods ≤ length contexts.old) }
+    ensures links { links.new ≡ over (replicate periods 0) links.old }
+    ensures contexts { contexts.new ≡ over (replicate (2 * periods) 0) contexts.old }
+{
+    links[..periods].fill(0);
+    contexts[..2 * periods].fill(0);
 }
 
 // The walk: what it answers, with the period table cleared.
-pub fn walk(
-    model: &Model,
-    rule: &Rule,
-    stem_room: usize,
-    period_room: usize,
-    lent: &mut Lent,
-) -> Ending
-    requires { Prepared (aut model.now) (aut rule.now) stem_room period_room (contents lent.old) }
+pub fn walk(model: &Model, rule: &Rule, room: Room, lent: &mut Lent) -> Ending
+    requires { Prepared (aut model.now) (aut rule.now) room.stems room.periods (contents lent.old) }
     ensures lent { StillLent lent.old lent.new }
-    ensures concluded { Concluded (walk (aut model.now) (aut rule.now) stem_room period_room) period_room (contents lent.old) (contents lent.new) result }
+    ensures concluded { Concluded (walk (aut model.now) (aut rule.now) room.stems room.periods) room.periods (contents lent.old) (contents lent.new) result }
 {
-    let ending = tell(
-        model,
-        rule,
-        stem_room,
-        period_room,
-        lent.smallest,
-        lent.largest,
-        &mut lent.links[..period_room],
-        &mut lent.contexts[..2 * period_room],
-        lent.stem,
-        lent.period,
-    );
-    lent.links[..period_room].fill(0);
-    lent.contexts[..2 * period_room].fill(0);
+    let ending = tell(model, rule, room, lent);
+    clear(lent.links, lent.contexts, room.periods);
     ending
 }

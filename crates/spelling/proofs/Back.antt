@@ -1,17 +1,19 @@
 -- Parts of an output that are lent: the last free place of a prefix, and the prefix when it is full. Assumes nothing.
-use mathlib.Core.Path.{◌≡◌, refl, ap, ◌∙◌}
-use mathlib.Core.List.{List, [], ◌∷◌, ◌++◌}
-use Prim.Native.Nat.{ℕ, zero, suc, ◌+◌, ◌-◌, ◌<◌, ◌≤◌}
+use mathlib.Core.Path.{◌≡◌, ap, ◌∙◌}
+use mathlib.Core.List.{List, ◌∷◌, ◌++◌}
+use Prim.Native.Nat.{ℕ, ◌+◌, ◌-◌, ◌<◌, ◌≤◌}
 use native.Mathlib.Omega.{arith}
 use lib.ListN.{length, set, drop}
 use borrow.Rule.Slice.PartMut.{mid_of, put_mid, set_mid_at, Post-is, mid_len}
+use Rattle.std.proofs.lemmas.List.{drop-set}
 use Rattle.growth.specs.Lent.{over}
 
--- from a place that was written on: what was written, and then what was there
-drop_set : (xs : List ℕ) (a x : ℕ) → a < length xs → drop a (set xs a x) ≡ x ∷ drop (suc a) xs
-drop_set [] a x h = absurd (omega arith)
-drop_set (y ∷ ys) zero x h = refl
-drop_set (y ∷ ys) (suc a) x h = drop_set ys a x (omega arith)
+-- the last free place, as a part of one element
+pub last_low : (free : ℕ) → 1 ≤ free → free - 1 < free
+last_low free l = omega arith
+
+pub last_part : (xs : List ℕ) (free : ℕ) → 1 ≤ free → free ≤ length xs → 1 ≤ length (mid_of (free - 1) (free - (free - 1)) xs)
+last_part xs free l h = omega (arith, mid_len (free - 1) free xs h)
 
 -- the last free place is written through a part of one element
 pub put_back : (xs : List ℕ) (free x : ℕ) → 0 < free → free ≤ length xs
@@ -20,9 +22,9 @@ put_back xs free x p h =
     let a = free - 1 in
     let one : length (mid_of a (free - a) xs) ≡ 1 = mid_len a free xs h ∙ omega arith in
     let at : a + (length (mid_of a (free - a) xs) - 1) ≡ a = omega arith in
-    let next : suc a ≡ free = omega arith in
+    let next : a + 1 ≡ free = omega arith in
     ap (drop a) (set_mid_at a (free - a) (length (mid_of a (free - a) xs) - 1) xs x (omega arith))
-    ∙ ap (λ (k : ℕ). drop a (set xs k x)) at ∙ drop_set xs a x (omega arith) ∙ ap (λ (k : ℕ). x ∷ drop k xs) next
+    ∙ ap (λ (k : ℕ). drop a (set xs k x)) at ∙ drop-set xs a x (omega arith) ∙ ap (λ (k : ℕ). x ∷ drop k xs) next
 
 -- what was lent as the first elements, and filled with w
 pub put_front : {X : Type 0} (n : ℕ) (xs w : List X) → n ≡ length w → put_mid 0 (n - 0) xs w ≡ over w xs

@@ -98,6 +98,13 @@ module _ (links : Bool) (t : List ℕ) where
         let w = spelled_step i l h in
         record { low = l; up = parent_inside i l (omega arith) h; word = w; count = ap length w ∙ length-append (spelled (parent_of links (get_or t i 0))) (letter_of links (get_or t i 0) ∷ []) }
 
+    -- so a letter is left, and then one fewer
+    pub one_left : {i top free : ℕ} → Inside (length t) i → top ≡ top_of links → (i ≡ top → ⊥) → free ≡ length (spelled i) → 1 ≤ free
+    one_left inside is other same = let up = step inside is other in omega (arith, up.count)
+
+    pub one_fewer : {i p top : ℕ} → Inside (length t) i → top ≡ top_of links → (i ≡ top → ⊥) → p ≡ parent_of links (get_or t i 0) → length (spelled p) < length (spelled i)
+    one_fewer inside is other same = let up = step inside is other in rw same (omega (arith, up.count))
+
   pub spelled_top : {i : ℕ} → i ≡ top_of links → spelled i ≡ []
   unfolding spelled
   spelled_top e = chain_top links t (length t) e

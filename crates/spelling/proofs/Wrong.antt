@@ -2,7 +2,6 @@
 use mathlib.Core.Path.{◌≡◌}
 use mathlib.Core.List.{List, ◌∷◌, []}
 use Prim.Native.Nat.{ℕ}
-use native.Mathlib.Omega.{arith}
 use Rattle.growth.specs.Lent.{over}
 use Rattle.spelling.specs.Written.{Written}
 
@@ -11,4 +10,4 @@ pub byte_beyond : {r : ℕ} → Written (3 ∷ []) r (0 ∷ 7 ∷ []) (3 ∷ 8 �
 unfolding over
 byte_beyond h =
     let same : ◌≡◌ {A = List ℕ} (3 ∷ 8 ∷ []) (3 ∷ 7 ∷ []) = h.bytes in
-    let z : ◌≡◌ {A = ℕ} 8 7 = cc in absurd (omega arith)
+    cc

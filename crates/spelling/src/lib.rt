@@ -63,8 +63,8 @@ impl Entry for PeriodLink {
     }
 }
 
-// The letters of an entry's word: one for each step up to the top.
-#[tactic(auto, using(crate::proofs::Chain::step, crate::proofs::Chain::spelled_length))]
+// The letters of an entry's word: one for each step up to the top. It follows parents: no `for` goes over them.
+#[tactic(auto, using(crate::proofs::Chain::step, crate::proofs::Chain::one_fewer, crate::proofs::Chain::spelled_length))]
 fn letters<E: Entry>(table: &[u32], entry: usize) -> usize
     requires backward { Backward E.links table.now }
     requires in_bounds { entry < length table.now }
@@ -91,7 +91,7 @@ fn put_last(part: &mut [u8], x: u8)
 
 // Writes the word of an entry into the first bytes of an output: its last letter goes into the last free place of their prefix, and so on up the
 // parents. The answer is the number of its letters.
-#[tactic(auto, using(crate::proofs::Chain::step, crate::proofs::Chain::spelled_length))]
+#[tactic(auto, using(crate::proofs::Chain::step, crate::proofs::Chain::one_left, crate::proofs::Back::last_low, crate::proofs::Back::last_part, crate::proofs::Chain::spelled_length))]
 pub fn write<E: Entry>(table: &[u32], entry: usize, out: &mut [u8]) -> usize
     requires backward { Backward E.links table.now }
     requires in_bounds { entry < length table.now }

@@ -43,12 +43,6 @@ pub record RaisedBelow (g : ℕ) (largest : Bool) (entry : ℕ) (old new : List 
   pub flag : (i : ℕ) → i < 4096 → flag_at new i ≡ (stem_covers largest entry i && ltb (stem_target i / 8) g || flag_at old i)
 
 module _ (largest : Bool) (entry : ℕ) where
-  pub raised_none : (marks : List ℕ) → RaisedBelow 0 largest entry marks marks
-  raised_none marks = record {
-    long = refl;
-    flag = λ i h. ap (λ (b : Bool). b || flag_at marks i) (sym (ap (◌&&◌ (stem_covers largest entry i)) (le-ltb (stem_target i / 8) 0 (omega arith)) ∙ and-false (stem_covers largest entry i)));
-  }
-
   -- one group more
   pub raised_more : {state target : ℕ} (g : ℕ) {old new : List ℕ} {eight : ℕ} → RaisedBelow g largest entry old new → length old ≡ 512 → g < 32
       → state ≡ stem_state entry → target ≡ stem_target entry → eight ≡ set_of (λ j. target_covers largest target (8 * g + j)) 8
@@ -101,12 +95,6 @@ module _ (largest : Bool) (entry : ℕ) where
           (bit_set_of (λ j. target_covers largest target (8 * g + j)) 8 (i % 8) (omega arith) ∙ sym (after i h here))
           ∙ or_comm (flag_at old i) (both i (g + 1))
       at i h (no n) = ap (λ (x : ℕ). bit x (i % 8)) (get_or-set_other new place (i / 8) byte 0 n) ∙ r.flag i h ∙ ap (λ (b : Bool). b || flag_at old i) (other i h n)
-
-  pub raised_all : {old new : List ℕ} → RaisedBelow 32 largest entry old new → Raised largest entry old new
-  raised_all {old} r = record {
-    long = r.long;
-    flag = λ i h. r.flag i h ∙ ap (λ (b : Bool). b || flag_at old i) (ap (◌&&◌ (stem_covers largest entry i)) (lt-ltb (stem_target i / 8) 32 (omega arith)) ∙ and-true (stem_covers largest entry i));
-  }
 
 -- ---- an entry more
 

@@ -5,18 +5,19 @@ use mathlib.Core.List.{List, [], ◌∷◌, ◌++◌}
 use Rattle.std.specs.Prelude.{Result, Ok, Err, IsErr}
 use Prim.Native.Nat.{ℕ, ◌+◌, ◌-◌, ◌%◌, ◌≤◌, ◌<◌}
 use native.Mathlib.Omega.{arith}
-use lib.ListN.{length, get_or, take, set, length-append, length-set}
+use lib.ListN.{length, get_or, take, set, length-append}
 use lib.Seq.{length-take-le, get_or-take}
+use Rattle.std.proofs.lemmas.List.{take_more_set}
 use Rattle.growth.specs.Grow.{Outcome, ended, full, onward, entries, covered, offer, grow}
 use Rattle.growth.specs.Lent.{growth_of, over}
 use Rattle.growth.specs.declared.Full.{Full}
 use Rattle.growth.proofs.Grown.{grow_end}
 use Rattle.growth.proofs.Offering.{offer_none, offer_covered, offer_appended, offer_full, offer_longer, grow_on, over_self, over_over, take_over, set_over}
-use Rattle.stems.specs.declared.Growing.{Growing}
+use Rattle.stems.specs.declared.growing.Growing.{Growing}
 use Rattle.stems.specs.Stems.{stem_covers}
 use Rattle.stems.specs.Held.{Held}
-use Rattle.stems.specs.Flags.{flag_at, Raised}
-use Rattle.stems.specs.Growing.{held, Ready, offered, Grown, answer_of, Kept}
+use Rattle.stems.specs.Flags.{flag_at, Marked, Raised}
+use Rattle.stems.specs.Growing.{held, offered, Grown, answer_of, Kept}
 use Rattle.stems.proofs.Flags.{look, marked_more}
 
 -- ---- answers
@@ -35,19 +36,23 @@ ended_is : (o : Outcome ℕ) {u : Unit {0}} → Ok u ≡ answer_of o → o ≡ e
 ended_is (ended t) e = refl
 ended_is (full t) e = cc
 
+-- ---- the flags with an entry more
+
+pub marked_appended : (g : Growing) (e : ℕ) {marks : List ℕ} → g.n < g.room → Raised g.largest e g.marks marks → Marked g.largest (take (g.n + 1) (set g.table.now g.n e)) marks
+marked_appended g e l raised = rw (take_more_set g.table.now g.n e (omega (arith, l, g.lent))) (marked_more g.largest e g.marked raised)
+
 -- ---- no candidate, or one
 
-module _ {g : Growing} (ready : Ready g) where
+module _ (g : Growing) where
   long : length (held g) ≡ g.n
-  long = length-take-le g.n g.table.now (omega (arith, ready.within, ready.lent))
+  long = length-take-le g.n g.table.now (omega (arith, g.within, g.lent))
 
   pub grown_self : Grown g g
   grown_self = record {
     same_reference = refl;
     same_room = refl;
     same_largest = refl;
-    beyond = sym (over_self g.n g.table.now (omega (arith, ready.within, ready.lent)));
-    ready = ready;
+    beyond = sym (over_self g.n g.table.now (omega (arith, g.within, g.lent)));
   }
 
   unchanged : {o : Outcome ℕ} {r : Result (Unit {0}) Full} → o ≡ ended (held g) → r ≡ Ok tt → Kept o g g r
@@ -58,7 +63,7 @@ module _ {g : Growing} (ready : Ready g) where
 
   module _ (e : ℕ) {b : Bool} (looked : b ≡ flag_at g.marks (e % 4096)) where
     told : covered (stem_covers g.largest) (held g) e ≡ b
-    told = sym (looked ∙ look g.largest e ready.marked)
+    told = sym (looked ∙ look g.largest e g.marked)
 
     pub kept_covered : b ≡ true → Kept (offered g (e ∷ [])) g g (Ok tt)
     kept_covered f = unchanged (offer_covered (stem_covers g.largest) g.room (held g) e (told ∙ f)) refl
@@ -78,13 +83,6 @@ module _ {g : Growing} (ready : Ready g) where
                 same_room = room;
                 same_largest = largest;
                 beyond = is ∙ ap (λ (t : List ℕ). over t g.table.now) (sym more);
-                ready =
-                    record {
-                      within = omega (arith, room, n);
-                      small = omega (arith, room, ready.small);
-                      lent = omega (arith, room, ready.lent, ap length table, length-set g.table.now g.n e);
-                      marked = rw (more, largest) (marked_more g.largest e ready.marked raised);
-                    };
               };
           holds = more ∙ sym (ap entries appends);
           answer = sym (ap answer_of appends);
@@ -97,7 +95,7 @@ module _ {g : Growing} (ready : Ready g) where
         appends = offer_appended (stem_covers g.largest) g.room (held g) e (told ∙ f) (omega (arith, long))
 
         is : new.table.now ≡ over (held g ++ (e ∷ [])) g.table.now
-        is = table ∙ set_over g.n g.table.now e (omega (arith, ready.lent))
+        is = table ∙ set_over g.n g.table.now e (omega (arith, g.lent))
 
         count : new.n ≡ length (held g ++ (e ∷ []))
         count = omega (arith, n, long, length-append (held g) (e ∷ []))
@@ -119,12 +117,11 @@ grown_on {old} {g} {new} a b l = record {
   same_room = b.same_room ∙ a.same_room;
   same_largest = b.same_largest ∙ a.same_largest;
   beyond = b.beyond ∙ ap (over (held new)) a.beyond ∙ over_over (held g) (held new) old.table.now l;
-  ready = b.ready;
 }
 
 module _ {whole : Outcome ℕ} where
-  pub going_from : {g : Growing} → Ready g → Going whole whole g g
-  going_from ready = record { grown = grown_self ready; same = refl }
+  pub going_from : (g : Growing) → Going whole whole g g
+  going_from g = record { grown = grown_self g; same = refl }
 
   pub going_end : {rest : Outcome ℕ} {old new : Growing} → Going whole rest old new → rest ≡ ended (held new) → Kept whole old new (Ok tt)
   going_end g e = record { grown = g.grown; holds = sym (ap entries (sym g.same ∙ e)); answer = sym (ap answer_of (sym g.same ∙ e)) }
@@ -170,11 +167,11 @@ module _ (next : ℕ → ℕ → List ℕ) {old g : Growing} (grown : Grown old 
   pub take_one : (i : ℕ) → i < g.n
       → taken i (held g) ≡ onward (offer (stem_covers old.largest) old.room (held g) (next i (get_or g.table.now i 0))) (taken (i + 1))
   take_one i l =
-      grow_on (stem_covers old.largest) old.room next i (held g) 0 (omega (arith, long grown.ready)) (omega (arith, long grown.ready, grown.ready.within, grown.same_room))
+      grow_on (stem_covers old.largest) old.room next i (held g) 0 (omega (arith, long g)) (omega (arith, long g, g.within, grown.same_room))
       ∙ ap (λ (e : ℕ). onward (offer (stem_covers old.largest) old.room (held g) (next i e)) (taken (i + 1))) (get_or-take g.n g.table.now i 0 l)
 
   pub take_none : (i : ℕ) → g.n ≤ i → taken i (held g) ≡ ended (held g)
-  take_none i l = grow_end (stem_covers old.largest) next old.room (old.room - i) (held g) (omega (arith, long grown.ready))
+  take_none i l = grow_end (stem_covers old.largest) next old.room (old.room - i) (held g) (omega (arith, long g))
 
 -- ---- the whole
 
@@ -193,6 +190,6 @@ module _ {o : Outcome ℕ} {old new : Growing} {r : Result (Unit {0}) Full} (k :
 
   pub held_all : {u : Unit {0}} → r ≡ Ok u → Held o old.table.now t (Ok new.n)
   held_all f = record {
-    answer = ap Ok (sym (long k.grown.ready) ∙ ap length k.holds) ∙ sym (ap growth_of (ended_is o (sym f ∙ k.answer)));
+    answer = ap Ok (sym (long new) ∙ ap length k.holds) ∙ sym (ap growth_of (ended_is o (sym f ∙ k.answer)));
     holds = onto;
   }

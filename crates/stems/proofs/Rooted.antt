@@ -3,27 +3,21 @@ use mathlib.Core.Path.{◌≡◌, refl, sym, ap₂, subst}
 use mathlib.Core.Bool.{Bool}
 use mathlib.Core.List.{List, [], ◌∷◌}
 use Rattle.std.specs.Prelude.{Result, Ok, Err}
-use Prim.Native.Nat.{ℕ, ◌^◌, ◌≤◌}
-use native.Mathlib.Omega.{arith}
-use lib.ListN.{length, replicate}
+use Prim.Native.Nat.{ℕ, ◌^◌}
 use Rattle.bits.specs.Fields.{stem_entry}
 use Rattle.growth.specs.declared.Full.{Full}
 use Rattle.growth.specs.Grow.{Outcome, onward, grow, table}
 use Rattle.growth.proofs.Offering.{grow_longer}
 use Rattle.automata.specs.declared.Automaton.{Automaton}
 use Rattle.automata.specs.Loaded.{aut, aut_of}
-use Rattle.stems.specs.declared.Growing.{Growing}
+use Rattle.stems.specs.declared.growing.Growing.{Growing}
 use Rattle.stems.specs.Stems.{stem_covers, stem_root, stem_next, stem_table}
-use Rattle.stems.specs.Growing.{held, Ready, offered, Kept}
-use Rattle.stems.proofs.Flags.{marked_none}
+use Rattle.stems.specs.Growing.{held, offered, Kept}
 use Rattle.stems.proofs.Loop.{grown_self, Going, going_on, going_full, going_last}
 
--- no entry, no flag
-pub ready_none : {g : Growing} → g.n ≡ 0 → g.marks ≡ replicate 512 0 → g.room ≤ 4096 → g.room ≤ length g.table.now → Ready g
-ready_none {g} n marks small lent = record { within = omega arith; small = small; lent = lent; marked = rw (n, marks) (marked_none g.largest) }
-
 module _ (model rule : Automaton (List (List ℕ))) {root : ℕ} (at-root : root ≡ stem_entry (2 ^ rule.head.start) model.head.start 0 0)
-    {g new : Growing} {r : Result (Unit {0}) Full} (n : g.n ≡ 0) (ready : Ready g) (k : Kept (offered g (root ∷ [])) g new r) where
+    {g new : Growing} {r : Result (Unit {0}) Full} (n : g.n ≡ 0)
+    (k : Kept (offered g (root ∷ [])) g new r) where
   abbrev whole : Outcome ℕ
   whole = stem_table (aut model) (aut rule) g.largest g.room
 
@@ -36,7 +30,7 @@ module _ (model rule : Automaton (List (List ℕ))) {root : ℕ} (at-root : root
   whole_is = rw (at-root, n) refl
 
   going : Going whole (onward (offered g (root ∷ [])) rest) g g
-  going = record { grown = grown_self ready; same = sym whole_is }
+  going = record { grown = grown_self g; same = sym whole_is }
 
   -- no room for it
   pub root_full : {err : Full} → r ≡ Err err → Kept whole g new r

@@ -1,22 +1,14 @@
 -- A lent table and its flags while the table grows: before candidates are offered, and after. Assumes nothing.
-use Rattle.std.specs.Prelude.{◌≡◌, List, ℕ, ◌≤◌, Result, Ok, Err, length, take}
+use Rattle.std.specs.Prelude.{◌≡◌, List, ℕ, Result, Ok, Err, take}
 use Rattle.growth.specs.Grow.{Outcome, ended, full, entries, offer}
 use Rattle.growth.specs.Lent.{over}
 use Rattle.growth.specs.declared.Full.{Full}
-use Rattle.stems.specs.declared.Growing.{Growing}
+use Rattle.stems.specs.declared.growing.Growing.{Growing}
 use Rattle.stems.specs.Stems.{stem_covers}
-use Rattle.stems.specs.Flags.{Marked}
 
 -- the first n elements are the entries
 abbrev pub held : Growing → List ℕ
 held g = take g.n g.table.now
-
--- they are within the room, which the table has, and the flags are theirs
-pub record Ready (g : Growing) : Type 0 where
-  pub within : g.n ≤ g.room
-  pub small : g.room ≤ 4096
-  pub lent : g.room ≤ length g.table.now
-  pub marked : Marked g.largest (held g) g.marks
 
 -- what comes of the candidates cs, offered to the entries
 abbrev pub offered : Growing → List ℕ → Outcome ℕ
@@ -28,7 +20,6 @@ pub record Grown (old new : Growing) : Type 0 where
   pub same_room : new.room ≡ old.room
   pub same_largest : new.largest ≡ old.largest
   pub beyond : new.table.now ≡ over (held new) old.table.now
-  pub ready : Ready new
 
 -- whether the table lacked room
 abbrev pub answer_of : Outcome ℕ → Result (Unit {0}) Full

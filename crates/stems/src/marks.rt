@@ -6,7 +6,7 @@ ghost use Rattle.stems.specs.Flags.{flag_at, Raised};
 
 use bits::members::Set;
 
-// Does the target of an entry cover that of a candidate?
+// Does the target of an entry cover that of a candidate? A flag, asked here alone: as a type it would be named all the way down to here.
 #[tactic(auto, unfolding(crate::specs::Stems::target_covers))]
 fn covers(old: u8, new: u8, largest: bool) -> bool
     ensures { result ≡ target_covers largest old new }
@@ -19,6 +19,7 @@ fn covers(old: u8, new: u8, largest: bool) -> bool
 }
 
 // Of the eight targets from `first` on, those that the target `old` covers.
+#[tactic(auto, using(automata::proofs::Turning::gathered_none, automata::proofs::Turning::gathered_more))]
 fn covered_from(old: u8, first: u8, largest: bool) -> u8
     requires { first ≤ 248 }
     ensures { result ≡ set_of (λ j. target_covers largest old (first + j)) 8 }

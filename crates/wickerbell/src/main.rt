@@ -4,7 +4,7 @@
 ghost use Rattle.std.specs.Prelude.{◌≤◌, length};
 
 use inclusion::{Answer, Letters};
-use search::Lent;
+use search::{Lent, Room};
 use std::fs::File;
 use std::io;
 use std::io::Read;
@@ -68,7 +68,11 @@ fn decide(rt: &impl Print, model: &[u8], rule: &[u8]) -> io::Result<()> {
         stem: &mut stem,
         period: &mut period,
     };
-    let answer = inclusion::decide(model, rule, 4096, 2048, &mut lent);
+    let room = Room {
+        stems: 4096,
+        periods: 2048,
+    };
+    let answer = inclusion::decide(model, rule, room, &mut lent);
     print(rt, answer, &stem, &period)
 }
 

@@ -6,7 +6,7 @@ use Rattle.periods.proofs.Candidates.{table_period}
 use Rattle.periods.proofs.grow.Goals as goal
 
 pub build-requires-clause-ready : goal.build-requires-clause-ready
-build-requires-clause-ready c = ready_none (search rules) (search rules) (search rules) (search rules) (search rules) (search rules) (search rules)
+build-requires-clause-ready c = search (rules, ready_none)
 
 pub returns-in_err-build : goal.returns-in_err-build
 returns-in_err-build c =

@@ -1,69 +1,40 @@
 -- `tell` meets its contract. Assumes nothing.
-use Rattle.search.proofs.Telling.{stems_fit, showable, grown, told_u, told_w, told_rounds}
-use Rattle.automata.specs.Loaded.{aut, aut_of}
-use mathlib.Core.Path.{sym}
-use lib.Seq.{length-take-le}
+use Rattle.std.proofs.Common.{arith}
+use Rattle.std.proofs.lemmas.List.{take-append-drop}
 use mathlib.Core.Bool.{true, false}
-use borrow.Author.Rules.{rules}
+use mathlib.Core.Path.{sym}
+use Rattle.search.proofs.Telling.{there, showable, part_kept, told_u, told_w, told_rounds}
 use Rattle.search.proofs.tell.Goals as goal
 
-pub grow-first-requires : goal.grow-first-requires
-unfolding aut_of
-grow-first-requires c =
-    let args = c.args in
-    record { room_bound = (c.requires.few_stems, c.requires.smallest_fits); start_bound = (c.requires.bounded.small.start_small, c.requires.small.start_small) }
+pub returns-in_default-clause-told : goal.returns-in_default-clause-told
+returns-in_default-clause-told c = told_u c.requires c.in_default.ensures c.stems_full.ensures
 
-pub returns-in_default : goal.returns-in_default
-returns-in_default c =
-    let args = c.args in
-    rw c.stems_full.ensures (told_u (aut args.model.now) (aut args.rule.now) args.stem_room args.period_room c.grow-first.ensures c.in_default.is)
-
-pub grow-second-requires : goal.grow-second-requires
-unfolding aut_of
-grow-second-requires c =
-    let args = c.args in
-    record { room_bound = (c.requires.few_stems, c.requires.largest_fits); start_bound = (c.requires.bounded.small.start_small, c.requires.small.start_small) }
-
-pub returns-in_default-second : goal.returns-in_default-second
-returns-in_default-second c =
-    let args = c.args in
-    rw c.stems_full-in_default-second.ensures (told_w (aut args.model.now) (aut args.rule.now) args.stem_room args.period_room c.grow-first.ensures c.in-Ok.is c.grow-second.ensures c.in_default-second.is)
+pub returns-in_default-second-clause-told : goal.returns-in_default-second-clause-told
+returns-in_default-second-clause-told c = told_w c.requires c.in-Ok.ensures c.in_default-second.ensures c.stems_full-in_default-second.ensures
 
 pub slice_bounds-u_table-end : goal.slice_bounds-u_table-end
-slice_bounds-u_table-end c =
-    let args = c.args in
-    stems_fit (aut args.model.now) (aut args.rule.now) args.stem_room false c.grow-first.ensures c.in-Ok.is c.requires.smallest_fits
-
-pub slice_bounds-w_table-end : goal.slice_bounds-w_table-end
-slice_bounds-w_table-end c =
-    let args = c.args in
-    stems_fit (aut args.model.now) (aut args.rule.now) args.stem_room true c.grow-second.ensures c.in-Ok-second.is c.requires.largest_fits
+slice_bounds-u_table-end c = let u = there c.requires false c.in-Ok.ensures in omega arith
 
 pub slice_bounds-u_table-end-2 : goal.slice_bounds-u_table-end-2
-slice_bounds-u_table-end-2 c =
-    let args = c.args in
-    sym (length-take-le _ _ (stems_fit (aut args.model.now) (aut args.rule.now) args.stem_room false c.grow-first.ensures c.in-Ok.is c.requires.smallest_fits))
+slice_bounds-u_table-end-2 c = sym (there c.requires false c.in-Ok.ensures).count
+
+pub slice_bounds-w_table-end : goal.slice_bounds-w_table-end
+slice_bounds-w_table-end c = let w = there c.requires true c.in-Ok-second.ensures in omega arith
 
 pub slice_bounds-w_table-end-2 : goal.slice_bounds-w_table-end-2
-slice_bounds-w_table-end-2 c =
-    let args = c.args in
-    sym (length-take-le _ _ (stems_fit (aut args.model.now) (aut args.rule.now) args.stem_room true c.grow-second.ensures c.in-Ok-second.is c.requires.largest_fits))
+slice_bounds-w_table-end-2 c = sym (there c.requires true c.in-Ok-second.ensures).count
 
-pub all-found-requires : goal.all-found-requires
-all-found-requires c =
-    let args = c.args in
-    let g = grown (aut args.model.now) (aut args.rule.now) args.stem_room args.period_room c.requires c.grow-first.ensures c.grow-second.ensures c.in-Ok.is c.in-Ok-second.is in
-    record { stems_len_bound = (g.u_few, g.w_few); room_bound = (g.short, g.links_fit, g.contexts_fit) }
+pub all-found-requires-clause-stems_len_bound : goal.all-found-requires-clause-stems_len_bound
+all-found-requires-clause-stems_len_bound c =
+    let u = there c.requires false c.in-Ok.ensures in
+    let w = there c.requires true c.in-Ok-second.ensures in
+    (omega arith, omega arith)
 
 pub show-requires : goal.show-requires
-show-requires c =
-    let args = c.args in
-    showable
-    (grown (aut args.model.now) (aut args.rule.now) args.stem_room args.period_room c.requires c.grow-first.ensures c.grow-second.ensures c.in-Ok.is c.in-Ok-second.is)
-    (search rules) c.all-found.ensures.legible
+show-requires c = showable c.requires c.in-Ok.ensures c.all-found.ensures.legible c.all-found.auto.links
 
-pub returns : goal.returns
-returns c =
-    let args = c.args in
-    told_rounds (aut args.model.now) (aut args.rule.now) args.stem_room args.period_room c.requires c.grow-first.ensures c.grow-second.ensures c.in-Ok.is c.in-Ok-second.is
-    c.all-found.ensures.finish c.show.ensures
+pub returns-clause-told : goal.returns-clause-told
+returns-clause-told c =
+    let links = part_kept c.all-found.new.links c.requires.enough.links_fit c.all-found.auto.links in
+    let contexts = part_kept c.all-found.new.contexts c.requires.enough.contexts_fit c.all-found.auto.contexts in
+    simp take-append-drop (told_rounds c.requires c.in-Ok.ensures c.in-Ok-second.ensures links contexts c.all-found.ensures.finish c.show.ensures)

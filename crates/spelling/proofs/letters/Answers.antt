@@ -1,18 +1,9 @@
 -- `spelling::letters` meets its contract. The loop's invariant: the letters passed and those from i up are the word's. Assumes nothing.
 use Rattle.spelling.proofs.Chain.{step, spelled_top, spelled_word}
-use mathlib.Core.Logic.{inr}
 use mathlib.Core.Path.{ap, ◌∙◌}
 use native.Mathlib.Omega.{arith}
 use lib.ListN.{length}
 use Rattle.spelling.proofs.letters.Goals as goal
-
-pub loop-i-init : goal.loop-i-init
-loop-i-init g c = (c.top-end.ensures, inr c.requires.in_bounds, omega arith)
-
-pub loop-i-smaller : goal.loop-i-smaller
-loop-i-smaller g c =
-    let up = step g.E.Entry.links c.args.table.now c.requires.backward c.loop-i.invariant.1 c.loop-i.invariant.0 c.loop-i-test.true in
-    rw c.parent-i.ensures (omega (arith, up.count))
 
 pub loop-i-preserved : goal.loop-i-preserved
 loop-i-preserved g c =

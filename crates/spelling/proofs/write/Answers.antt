@@ -1,7 +1,7 @@
 -- `spelling::write` meets its contract. The loop's invariant: the word of i and what is written after it are the whole word. Assumes nothing.
 use native.Mathlib.Nat.{le_of_eq}
 use Rattle.growth.specs.Lent.{over}
-use borrow.Rule.Slice.PartMut.{put_mid, mid_len}
+use borrow.Rule.Slice.PartMut.{put_mid}
 use Rattle.spelling.proofs.Back.{put_back, put_front}
 use lib.Seq.{length-take-le}
 use lib.ListN.{take}
@@ -29,22 +29,6 @@ loop-i-init g c =
     let same : n ≡ length (spelled g.E.Entry.links c.args.table.now c.args.entry) = c.letters-n.ensures ∙ sym (ap length word) in
     let long : length (take (n - 0) c.args.out.now) ≡ n = length-take-le (n - 0) c.args.out.now (omega (arith, same, spelled_length g.E.Entry.links c.args.table.now c.args.entry)) ∙ omega arith in
     (c.top-end.ensures, inr c.requires.in_bounds, long, same, same, omega arith, ap (λ (z : List ℕ). spelled g.E.Entry.links c.args.table.now c.args.entry ++ z) (drop_of_length-le (take (n - 0) c.args.out.now) (le_of_eq long)) ∙ append-nil (spelled g.E.Entry.links c.args.table.now c.args.entry))
-
-pub overflow_sub-last : goal.overflow_sub-last
-overflow_sub-last g c =
-    let up = step g.E.Entry.links c.args.table.now c.requires.backward c.loop-i.invariant.1 c.loop-i.invariant.0 c.loop-i-test.true in
-    omega (arith, up.count)
-
-pub put_last-requires : goal.put_last-requires
-put_last-requires g c =
-    let loop = c.loop-i in
-    let up = step g.E.Entry.links c.args.table.now c.requires.backward c.loop-i.invariant.1 c.loop-i.invariant.0 c.loop-i-test.true in
-    omega (arith, up.count, mid_len (loop.free - 1) loop.free loop.prefix (omega arith))
-
-pub loop-i-smaller : goal.loop-i-smaller
-loop-i-smaller g c =
-    let up = step g.E.Entry.links c.args.table.now c.requires.backward c.loop-i.invariant.1 c.loop-i.invariant.0 c.loop-i-test.true in
-    omega (arith, up.count)
 
 pub loop-i-preserved : goal.loop-i-preserved
 loop-i-preserved g c =

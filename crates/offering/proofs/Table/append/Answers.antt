@@ -2,11 +2,11 @@
 use Rattle.std.proofs.Common.{◌∙◌, ap₂, ◌+◌, ℕ, get_or, set}
 use native.Mathlib.Numerals.{add-one}
 use borrow.Author.Rules.{rules}
-use Rattle.offering.proofs.Appended.{never, keeps_same, none_count, none_written, more_count, written}
+use Rattle.offering.proofs.Appended.{keeps_same, none_count, none_written, more_count, written}
 use Rattle.offering.proofs.Table.append.Goals as goal
 
 pub returns-then-self : goal.returns-then-self
-returns-then-self c = record { keeps = keeps_same _; count = none_count c.requires _ c.if-self.true; lent = none_written c.requires _ c.if-self.true; linked = λ is. absurd (never is) }
+returns-then-self c = record { keeps = keeps_same _; count = none_count c.requires _ c.if-self.true; lent = none_written c.requires _ c.if-self.true; linked = λ is. absurd cc }
 
 pub returns : goal.returns
 returns c =

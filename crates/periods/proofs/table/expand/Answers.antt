@@ -2,8 +2,7 @@
 use mathlib.Core.Path.{ap}
 use native.Mathlib.Omega.{arith}
 use Rattle.automata.specs.Loaded.{aut}
-use Rattle.periods.specs.declared.table.Move.{Move}
-use Rattle.periods.specs.Candidates.{move_of, at_letter}
+use Rattle.periods.specs.Candidates.{at_letter}
 use Rattle.periods.proofs.Loop.{loop_start, loop_end, loop_skip, loop_full, loop_on}
 use Rattle.periods.proofs.Candidates.{by_letter, letters_all, letter_none}
 use Rattle.periods.proofs.table.expand.Goals as goal
@@ -15,13 +14,6 @@ loop-x-init c =
 
 pub loop-x-preserved-then-model-x-eq0 : goal.loop-x-preserved-then-model-x-eq0
 loop-x-preserved-then-model-x-eq0 c = loop_skip _ _ _ _ c.loop-x.invariant (omega arith) (letter_none _ _ _ _ c.if-model-x-eq0.true)
-
-pub by_letter-requires-clause-letter_bound : goal.by_letter-requires-clause-letter_bound
-unfolding move_of
-by_letter-requires-clause-letter_bound c = omega (arith, ap (λ (by : Move). by.letter) c.step.ensures)
-
-pub by_letter-requires-clause-ready : goal.by_letter-requires-clause-ready
-by_letter-requires-clause-ready c = c.loop-x.invariant.ready
 
 pub returns-in_err-by_letter : goal.returns-in_err-by_letter
 unfolding by_letter

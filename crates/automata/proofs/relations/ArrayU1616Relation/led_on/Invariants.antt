@@ -1,10 +1,8 @@
-use Prim.Native.Nat.{◌*◌}
-use Rattle.bits.specs.Bits.{weight}
-use Rattle.bits.specs.Sets.{union}
-use Rattle.bits.specs.Pairs.{pair, row}
-use Rattle.bits.proofs.Values.{Filled}
-use Rattle.automata.specs.Loaded.{listed}
+use Prim.Native.Nat.{◌*◌, ◌/◌, ◌^◌}
+use lib.Bits.{bit_and}
+use lib.ListN.{get_or}
+use Rattle.automata.proofs.Listed.{Added}
 use Rattle.automata.proofs.relations.ArrayU1616Relation.led_on.Given as goal
 
 abbrev pub invariant-loop-q : goal.invariant-loop-q
-invariant-loop-q l = Filled 0 (λ q. union 16 (row 16 (listed 16 l.self) q) (weight (pair 16 (listed 16 l.c) q l.p) * l.y)) 16 l.out l.q
+invariant-loop-q l = Added l.fn.self (λ q. bit_and (get_or l.c q 0 / 2 ^ l.p) 1 * l.y) l.row-items l.q

@@ -1,8 +1,7 @@
-use Rattle.bits.specs.Sets.{union, meet}
-use Rattle.bits.specs.Pairs.{row}
-use Rattle.bits.proofs.Values.{Filled}
-use Rattle.automata.specs.Loaded.{listed}
+use lib.Bits.{bit_and}
+use lib.ListN.{get_or}
+use Rattle.automata.proofs.Listed.{Added}
 use Rattle.automata.proofs.relations.ArrayU1616Relation.met.Given as goal
 
 abbrev pub invariant-loop-q : goal.invariant-loop-q
-invariant-loop-q l = Filled 0 (λ q. union 16 (row 16 (listed 16 l.self) q) (meet 16 (row 16 (listed 16 l.reach) q) l.accepting)) 16 l.out l.q
+invariant-loop-q l = Added l.fn.self (λ q. bit_and (get_or l.reach q 0) l.accepting) l.row-items l.q

@@ -1,12 +1,8 @@
 -- `Relation::led_on` of eight states meets its contract. Assumes nothing.
 use Rattle.bits.specs.Bits.{pack}
 use Rattle.bits.specs.Pairs.{pairs}
-use Rattle.automata.proofs.Rows.{column_times_lt, led_on_lem}
+use Rattle.automata.proofs.Rows.{led_on_lem}
 use Rattle.automata.proofs.relations.U64Relation.led_on.Goals as goal
-
-pub overflow_mul-result : goal.overflow_mul-result
-unfolding pairs pack
-overflow_mul-result c = record { fits = column_times_lt 8 c.args.c c.args.p c.args.y c.requires c.ranges.y.fits }
 
 pub returns : goal.returns
 unfolding pairs pack

@@ -1,6 +1,0 @@
--- One member of a set in a u16, by a test. Assumes nothing.
-use Rattle.bits.proofs.Operations.{shifted_weight}
-use Rattle.bits.proofs.members.U16Set.only.Goals as goal
-
-pub returns : goal.returns
-returns c = shifted_weight 16 c.args.is c.args.q c.requires
