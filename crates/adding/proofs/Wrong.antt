@@ -10,7 +10,7 @@ use Rattle.bits.proofs.Refuses.{Refuses, lent}
 use Rattle.adding.specs.declared.Draft.{Draft}
 use Rattle.adding.specs.declared.Record.{Record}
 use Rattle.adding.specs.declared.reason.Reason.{Reason}
-use Rattle.adding.specs.declared.reason.Reason.TheVariants.{PastLimit}
+use Rattle.adding.specs.declared.reason.Reason.TheVariants.{PastLimit, Other}
 use Rattle.adding.specs.Reason.{number}
 use Rattle.adding.specs.Steps.{lone_state, record_of, step_by}
 use Rattle.adding.proofs.record_at.Reads as RecordAt
@@ -32,9 +32,13 @@ module _ (κs : Lfts 1) (table : MutBor (List (List ℕ))) (draft next : Draft) 
   pub on_refused : step_by table.now draft said ≡ Ok next → Refuses Add.Post {k = κs} (table, (draft, (said, _))) (Err reason)
   on_refused e x p = let f = p.0 in cc
 
--- a refusal told by a verdict's number
-pub zero_told : (reason : Reason) → Refuses Number.Post (reason, _) 0
-zero_told reason x p = omega (arith, p, some_number reason)
+-- a refusal of document 01 told by a verdict's number
+pub zero_told : (reason : Reason) → ((k : ℕ) → reason ≡ Other k → ⊥) → Refuses Number.Post (reason, _) 0
+zero_told reason known x p = omega (arith, p, some_number reason known)
+
+-- a caller's number lost
+pub callers_lost : (k : ℕ) → Refuses Number.Post (Other (suc k), _) 0
+callers_lost k x p = omega (arith, p)
 
 -- a refusal told by the next one's number
 pub next_number : (reason : Reason) → Refuses Number.Post (reason, _) (suc (number reason))

@@ -1,7 +1,7 @@
 -- The numbers of the refusals (document 01, "Numbers the tool answers with"). Assumes nothing.
 use Rattle.std.specs.Prelude.{ℕ}
 use Rattle.adding.specs.declared.reason.Reason.{Reason}
-use Rattle.adding.specs.declared.reason.Reason.TheVariants.{BrokenLength, UnknownKind, ByteNotZero, PastLimit, ThereAlready, NoInitialState, TooLittleLent, StemsFull, PeriodsFull, EmptyPeriod, LetterPastLimit}
+use Rattle.adding.specs.declared.reason.Reason.TheVariants.{BrokenLength, UnknownKind, ByteNotZero, PastLimit, ThereAlready, NoInitialState, TooLittleLent, StemsFull, PeriodsFull, EmptyPeriod, LetterPastLimit, Other}
 
 abbrev pub number : Reason → ℕ
 number BrokenLength = 1
@@ -15,3 +15,4 @@ number StemsFull = 8
 number PeriodsFull = 9
 number EmptyPeriod = 10
 number LetterPastLimit = 11
+number (Other k) = k

@@ -71,13 +71,14 @@ loaded table = record { table = table; head = head }
 -- ---- relations of eight states
 
 -- row 0 of 769, which has the rows 1 and 3, for row 1, and row 1 for row 0
-pub first_row : Refuses row_of.Post (769, (1, _)) 1
-unfolding row digit
-first_row x p = omega (arith, p)
+module _ (κ : Lft) where
+  pub first_row : Refuses row_of.Post {k = (κ, _)} (lent 769, (1, _)) 1
+  unfolding row digit
+  first_row x p = omega (arith, p)
 
-pub second_row : Refuses row_of.Post (769, (0, _)) 3
-unfolding row digit
-second_row x p = omega (arith, p)
+  pub second_row : Refuses row_of.Post {k = (κ, _)} (lent 769, (0, _)) 3
+  unfolding row digit
+  second_row x p = omega (arith, p)
 
 -- 0 and 1 lead to 0, and are led on to 1 and 2: 0 alone, and neither
 pub first_led_on : Refuses leading_on.Post (0, (257, (0, (6, _)))) 6

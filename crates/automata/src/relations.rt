@@ -20,10 +20,10 @@ pub trait Relation: Copy {
     fn is_none(self) -> bool
         ensures { IsTrue result → packed self ≡ 0 };
 
-    // Row q: what q is paired with.
-    fn row(self, q: usize) -> Self::Row
+    // Row q: what q is paired with. By reference, so that for one row the others are not copied.
+    fn row(&self, q: usize) -> Self::Row
         requires { q < Self.Row.WIDTH }
-        ensures { Self.Row.bits result ≡ row Self.Row.WIDTH (packed self) q };
+        ensures { Self.Row.bits result ≡ row Self.Row.WIDTH (packed self.now) q };
 
     // These pairs, and those of c that end in p, led on to the members of y.
     fn led_on(self, c: Self, p: usize, y: Self::Row) -> Self
@@ -63,8 +63,8 @@ impl Relation for u64 {
     }
 
     #[inline]
-    fn row(self, q: usize) -> u8 {
-        bits::rows::row_of(self, q)
+    fn row(&self, q: usize) -> u8 {
+        bits::rows::row_of(*self, q)
     }
 
     // Column p of c, times the row y: all rows are led on at once.
@@ -100,7 +100,7 @@ impl Relation for [u16; 16] {
     }
 
     #[inline]
-    fn row(self, q: usize) -> u16 {
+    fn row(&self, q: usize) -> u16 {
         self[q]
     }
 

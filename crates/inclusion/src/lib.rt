@@ -7,11 +7,10 @@ ghost use Rattle.inclusion.specs.Answers.{answer_to, numbers_of};
 ghost use Rattle.inclusion.specs.Decided.{Decided};
 
 use adding::Reason;
-use automata::Automaton;
+use automata::{Automaton, Head};
 use loading::Sizes;
 use records::Refusal;
 use search::{Counts, Ending, Lengths, Lent, Room};
-use std::fmt;
 
 // What the tool answers: a verdict with its counts, for a shown lasso the lengths of its words, or a refusal with the counts so far. No Result: who
 // asks looks at all three, no `?` hands one on, and each has its counts.
@@ -62,20 +61,28 @@ pub fn decide(model: &[u8], rule: &[u8], room: Room, lent: &mut Lent<'_>) -> Ans
         stem: lent.stem.len(),
         period: lent.period.len(),
     };
-    let mut model_table = [[0u16; 16]; 16];
-    let mut rule_table = [[0u8; 8]; 16];
-    let loaded = loading::load(model, rule, room, sizes, &mut model_table, &mut rule_table);
-    match loaded {
+    // Each table is read where it stays: nothing of it is copied.
+    let mut loaded_model = Automaton {
+        table: [[0u16; 16]; 16],
+        head: Head::default(),
+    };
+    let mut loaded_rule = Automaton {
+        table: [[0u8; 8]; 16],
+        head: Head::default(),
+    };
+    let heads = loading::load(
+        model,
+        rule,
+        room,
+        sizes,
+        &mut loaded_model.table,
+        &mut loaded_rule.table,
+    );
+    match heads {
         Ok((model_head, rule_head)) => {
-            let model = Automaton {
-                table: model_table,
-                head: model_head,
-            };
-            let rule = Automaton {
-                table: rule_table,
-                head: rule_head,
-            };
-            let ending = search::walk(&model, &rule, room, lent);
+            loaded_model.head = model_head;
+            loaded_rule.head = rule_head;
+            let ending = search::walk(&loaded_model, &loaded_rule, room, lent);
             answer_to(room, ending)
         }
         Err(refusal) => {
@@ -116,21 +123,5 @@ pub fn numbers(answer: Answer) -> [u64; 9]
         Answer::Included(c) => row(0, 0, 0, c, 0, 0),
         Answer::NotIncluded(c, l) => row(0, 0, 0, c, l.stem, l.period),
         Answer::Refused(r, c) => row(r.reason.number(), r.which, r.place, c, 0, 0),
-    }
-}
-
-// The word in an output's first bytes, as it is printed: a space and a decimal number for each letter.
-#[derive(Clone, Copy)]
-pub struct Letters<'a> {
-    pub output: &'a [u8],
-    pub count: usize,
-}
-
-impl fmt::Display for Letters<'_> {
-    fn fmt<W: fmt::Write>(&self, f: &mut fmt::Formatter<W>) -> fmt::Result {
-        for letter in self.output.iter().take(self.count) {
-            write!(f, " {letter}")?;
-        }
-        Ok(())
     }
 }

@@ -3,5 +3,6 @@ pub mod Lettered
 pub mod Walked
 pub mod Judged
 pub mod Right
+pub mod File
 pub mod Samples
 pub mod Wrong

@@ -1,6 +1,6 @@
 -- The lasso test is right: it is true exactly if the inputs are good and the lasso is accepted, false exactly if they are and it is not.
 -- Assumes nothing.
-use mathlib.Core.Bool.{Bool, true, false, cond, false≢true}
+use mathlib.Core.Bool.{Bool, true, false, false≢true}
 use mathlib.Core.Logic.{◌↔◌}
 use mathlib.Core.Path.{◌≡◌, refl, sym, ◌∙◌, subst⁻¹}
 use mathlib.Core.List.{List}
@@ -17,15 +17,15 @@ use Rattle.acceptance.proofs.Targets.{small_more}
 use Rattle.acceptance.proofs.Words.{describes_word}
 use Rattle.automata.specs.declared.Head.{Head}
 use Rattle.automata.proofs.Accepting.{accepted}
-use Rattle.adding.specs.declared.reason.Reason.TheVariants.{EmptyPeriod}
 use Rattle.records.specs.declared.Fault.{Fault}
 use Rattle.records.specs.declared.Refusal.{Refusal}
 use Rattle.records.specs.Spelled.{spelled}
-use Rattle.records.specs.Faults.{judged, refusal, refusal_of}
+use Rattle.records.specs.Faults.{judged, refusal_of}
 use Rattle.records.proofs.Limits.{spelled_small}
 use Rattle.membership.specs.Checks.{checked}
 use Rattle.membership.specs.Test.{verdict, tested_on, tested}
 use Rattle.membership.specs.Meaning.{Sound, TestRight}
+use Rattle.membership.proofs.Judged.{empty_period}
 use Rattle.membership.proofs.Lettered.{checked_lettered, lettered_checked}
 
 -- ---- the verdict
@@ -54,17 +54,19 @@ module _ {records : List ℕ} {u v : Word} where
   words_outcome head e = at (eqb (length v) 0) refl (checked 0 u) refl (checked 1 v) refl
     where
       at : (a : Bool) → eqb (length v) 0 ≡ a → (b : Result (Unit {0}) Refusal) → checked 0 u ≡ b → (c : Result (Unit {0}) Refusal) → checked 1 v ≡ c
-          → Outcome records u v (cond a (Err (refusal EmptyPeriod 0 0)) (result_and b (result_and c (Ok (verdict (spelled records) u v)))))
-      at true f b g c h = refused (λ s. let l = s.some_letter in omega (arith, eqb-true (length v) 0 f))
-      at false f (Ok x) g (Ok y) h = decided (record {
+          → Outcome records u v (tested_on (spelled records) u v)
+      at true f b g c h =
+          let none = eqb-true (length v) 0 f in
+          rw (← empty_period (spelled records) u v none) (refused (λ s. let l = s.some_letter in omega (arith, none)))
+      at false f (Ok x) g (Ok y) h = rw (f, g, h) (decided (record {
         head = head;
         file = e;
         some_letter = omega (arith, eqb-false (length v) 0 f);
         stem = checked_lettered 0 u g;
         period = checked_lettered 1 v h;
-      })
-      at false f (Ok x) g (Err r) h = refused (λ s. let k = sym h ∙ lettered_checked 1 v s.period in cc)
-      at false f (Err r) g c h = refused (λ s. let k = sym g ∙ lettered_checked 0 u s.stem in cc)
+      }))
+      at false f (Ok x) g (Err r) h = rw (f, g, h) (refused (λ s. let k = sym h ∙ lettered_checked 1 v s.period in cc))
+      at false f (Err r) g c h = rw (f, g) (refused (λ s. let k = sym g ∙ lettered_checked 0 u s.stem in cc))
 
   outcome : Outcome records u v (tested records u v)
   unfolding tested

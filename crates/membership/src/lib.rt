@@ -9,7 +9,7 @@ ghost use Rattle.membership.specs.Test.{verdict, tested_on};
 ghost use Rattle.membership.specs.Meaning.{TestRight};
 
 use adding::Reason;
-use automata::{Automaton, Context, Model};
+use automata::{Automaton, Context, Head, Model};
 use bits::members;
 use records::Refusal;
 
@@ -91,12 +91,16 @@ fn test_words(model: &Model, stem: &[u8], period: &[u8]) -> Result<bool, Refusal
 }
 
 // The lasso test of one automaton with A's limits: the records are judged, then the words, and good ones are decided.
-#[tactic(auto, using(crate::proofs::Judged::start_small))]
+#[tactic(auto, using(crate::proofs::File::start_small))]
 pub fn test(records: &[u8], stem: &[u8], period: &[u8]) -> Result<bool, Refusal>
     ensures { TestRight records.now stem.now period.now result }
 {
-    let mut table = [[0u16; 16]; 16];
-    let file = records::read(records, 16, &mut table);
-    let head = records::refusal_of(0, file)?;
-    test_words(&Automaton { table, head }, stem, period)
+    // The table is read where it stays: nothing of it is copied.
+    let mut model = Automaton {
+        table: [[0u16; 16]; 16],
+        head: Head::default(),
+    };
+    let file = records::read(records, 16, &mut model.table);
+    model.head = records::refusal_of(0, file)?;
+    test_words(&model, stem, period)
 }

@@ -2,12 +2,12 @@
 use mathlib.Core.Path.{◌≡◌, refl, sym, ap, ap₂, ◌∙◌, subst}
 use mathlib.Core.Bool.{Bool, true, false, ◌&&◌, and-true}
 use mathlib.Core.List.{List, [], ◌∷◌, map-id}
-use Prim.Native.Nat.{ℕ, ◌+◌, ◌*◌, ◌%◌, ◌^◌, ◌<◌}
+use Prim.Native.Nat.{ℕ, ◌+◌, ◌-◌, ◌^◌, ◌<◌}
 use native.Mathlib.Omega.{arith}
 use lib.Bits.{bit_and}
-use mir.Syntax.{w16}
+use mir.Syntax.{w32}
 use Rattle.std.specs.Prelude.{Result, Ok, Err, IsErr}
-use Rattle.std.specs.Int.{bit_not, trailing_zeros}
+use Rattle.std.specs.Int.{trailing_zeros}
 use Rattle.growth.specs.declared.Full.{Full}
 use Rattle.offering.specs.declared.Table.{Table}
 use Rattle.offering.specs.Growing.{entries_of, Ready, Grows}
@@ -74,11 +74,11 @@ module _ {by : Move} {rest : ℕ} {s t : Table} (l : Left by rest s t) where
       (loop_past (at_state by) 16 s l.i l.going 16 l.members.within (omega arith) (λ m h k. state_none by m (rest_none l.members e m h k))) (omega arith)
 
   -- the candidate at the lowest successor
-  module _ (some : 0 < rest) {q : ℕ} (is : q ≡ trailing_zeros w16 rest) where
+  module _ (some : 0 < rest) {q : ℕ} (is : q ≡ trailing_zeros w32 rest) where
     pub left_low : q < 16
     left_low = low l.members some is
 
-    pub left_less : bit_and rest (bit_not w16 (1 * 2 ^ q % 2 ^ 16)) < rest
+    pub left_less : bit_and rest (rest - 1) < rest
     left_less = less l.members some is
 
     going_here : Going (offer (covers s.rows) s.room (entries_of s) (at_letter by)) (from (at_state by) 16 s q) s t
@@ -89,7 +89,7 @@ module _ {by : Move} {rest : ℕ} {s t : Table} (l : Left by rest s t) where
       pub left_full : {o : Result (Unit {0}) Full} {lacks : Full} → r ≡ Err lacks → IsErr o → Grows (offer (covers s.rows) s.room (entries_of s) (at_letter by)) o s t'
       left_full = loop_full (at_state by) 16 s q going_here left_low (state_some by q (here l.members some is) e) g
 
-      pub left_on : r ≡ Ok tt → Left by (bit_and rest (bit_not w16 (1 * 2 ^ q % 2 ^ 16))) s t'
+      pub left_on : r ≡ Ok tt → Left by (bit_and rest (rest - 1)) s t'
       left_on ok = record { i = q + 1; members = rest_on l.members some is; going = loop_on (at_state by) 16 s q going_here left_low (state_some by q (here l.members some is) e) g ok }
 
 module _ (model : List (List ℕ)) (B : Aut) (word : Word) where

@@ -33,20 +33,21 @@ struct Move {
 }
 
 // The candidates by one letter, successors rising; their context is the same. The lowest successor is taken out each time, until none is left: nothing is
-// spent on a state that is none.
+// spent on a state that is none. The rest has 32 bits: a number of 16 is written into a register that keeps its upper half, and so each step would wait for the
+// entry that was looked at before.
 fn by_letter(table: &mut Table, by: Move) -> Result<(), Full>
     requires letter_bound { by.letter < 16 }
     requires ready { Ready table.old }
     ensures { Grows (offer (covers table.old.rows) table.old.room (entries_of table.old) (at_letter by)) result table.old table.new }
 {
-    let mut rest = by.successors;
+    let mut rest = u32::from(by.successors);
     while rest != 0 {
         let q = rest.trailing_zeros();
         table.offer(
             entries::period_link(q as u8, by.letter, by.parent),
             by.context,
         )?;
-        rest &= !(1 << q);
+        rest &= rest - 1;
     }
     Ok(())
 }

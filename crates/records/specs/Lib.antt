@@ -3,3 +3,4 @@ pub mod Spelled
 pub mod Faults
 pub mod Narrow
 pub mod BadRecord
+pub mod Text

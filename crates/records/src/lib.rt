@@ -1,11 +1,12 @@
 //! Record files: read in one pass to a loaded automaton, or refused at the first fault.
 #![tactic(auto)]
 
-ghost use Rattle.std.specs.Prelude.{[], ◌≡◌, ◌+◌, ◌*◌, ◌<◌, ◌≤◌, length, take, drop};
+ghost use Rattle.std.specs.Prelude.{[], ◌≡◌, ◌+◌, ◌*◌, ◌<◌, ◌≤◌, length, take, drop, Some};
 ghost use Rattle.adding.specs.Steps.{record_at, step_by, table_by};
 ghost use Rattle.records.specs.Spelled.{table_of};
 ghost use Rattle.records.specs.Faults.{placed, good_records, judged, refusal_of};
 ghost use Rattle.records.specs.Narrow.{narrow_row, narrow};
+ghost use Rattle.records.specs.Text.{refusal_text};
 ghost use Rattle.records.specs.BadRecord.{file_of, bad_file, bad_start, bad_record};
 
 use adding::{Draft, Reason};
@@ -22,6 +23,8 @@ pub struct Refusal {
 }
 
 impl fmt::Display for Refusal {
+    ghost output = { λ refusal. Some (refusal_text refusal) };
+
     fn fmt<W: fmt::Write>(&self, f: &mut fmt::Formatter<W>) -> fmt::Result {
         write!(f, "{} {} {}", self.reason.number(), self.which, self.place)
     }

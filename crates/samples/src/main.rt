@@ -5,7 +5,7 @@
 
 ghost use Rattle.std.specs.Prelude.{◌≡◌, length};
 
-use inclusion::{Answer, Letters};
+use inclusion::Answer;
 use search::{Lent, Room};
 use std::io;
 
@@ -16,20 +16,22 @@ fn numbers(rt: &impl Print, row: [u64; 9]) -> io::Result<()> {
     println!(rt)
 }
 
-// The words that an answer shows, if it does: the first letters of the outputs.
+// The first letters of an output.
+fn word(rt: &impl Print, name: &str, output: &[u8], count: usize) -> io::Result<()> {
+    print!(rt; "{name}")?;
+    for letter in output.iter().take(count) {
+        print!(rt; " {letter}")?;
+    }
+    println!(rt)
+}
+
+// The words that an answer shows, if it does.
 fn shown(rt: &impl Print, answer: Answer, stem: &[u8], period: &[u8]) -> io::Result<()> {
     let Answer::NotIncluded(_, lengths) = answer else {
         return Ok(());
     };
-    let stem = Letters {
-        output: stem,
-        count: lengths.stem,
-    };
-    let period = Letters {
-        output: period,
-        count: lengths.period,
-    };
-    println!(rt; " stem:{stem}\n period:{period}")
+    word(rt, " stem:", stem, lengths.stem)?;
+    word(rt, " period:", period, lengths.period)
 }
 
 // A long array of zeroes. The `ensures` gives its length, which lending it as a slice needs: of a long array that is a local, the elements are counted one by

@@ -30,9 +30,9 @@ use Rattle.search.specs.Contract.{Kept, Prepared, Told, Showable, Shows}
 use Rattle.walk.proofs.Runs.{u_full, w_full, ran, runs, walk_is}
 use Rattle.walk.proofs.Cut.{stems}
 
-module _ {A B : Aut} {S P : ℕ} {lent : Buffers} (ready : Prepared A B S P lent) where
-  -- ---- a stem table that was grown
+-- ---- a stem table that was grown
 
+module _ (A B : Aut) (S : ℕ) where
   -- n entries, which are its first elements
   pub record There (largest : Bool) (table : List ℕ) (n : ℕ) : Type 0 where
     pub is_ended : stem_table A B largest S ≡ ended (entries (stem_table A B largest S))
@@ -46,10 +46,11 @@ module _ {A B : Aut} {S P : ℕ} {lent : Buffers} (ready : Prepared A B S P lent
       let part : take n new ≡ entries (stem_table A B largest S) = rw (h.holds, ← count) (take_over (entries (stem_table A B largest S)) old) in
       record { is_ended = is; part = part; count = ap length part ∙ count; within = omega (arith, (stems A B largest).within S) }
 
+module _ {A B : Aut} {S P : ℕ} {lent : Buffers} (ready : Prepared A B S P lent) where
   -- parents come before their children
   stems_back : {old new : List ℕ} {n : ℕ} → Held (stem_table A B false S) old new (Ok n) → Backward false (take n new)
   stems_back {new = new} {n} h =
-      let u = there false h in
+      let u = there A B S false h in
       rw u.part (record {
         short = omega (arith, ap length u.part, ready.enough.few_stems);
         parents = λ i l e. let z = eqb-false i 0 e in inr (stem_parents ready.bounded ready.small false S i (omega arith) l);
@@ -59,7 +60,7 @@ module _ {A B : Aut} {S P : ℕ} {lent : Buffers} (ready : Prepared A B S P lent
   pub showable : {old smallest links : List ℕ} {n : ℕ} {r : Result Tally Stop} → Held (stem_table A B false S) old smallest (Ok n) → Legible P (take n smallest) links r
       → length links ≡ length (take P lent.links) → Showable (take n smallest) links lent.stem lent.period r
   showable h legible e =
-      let u = there false h in
+      let u = there A B S false h in
       let long = length-take-le P lent.links ready.enough.links_fit in
       record {
         room = P;
@@ -78,7 +79,7 @@ part_kept {n} {old} part l e =
 
 -- ---- what the walk leaves
 
-module _ {A B : Aut} {S P : ℕ} {old : Buffers} (ready : Prepared A B S P old) {smallest : List ℕ} where
+module _ (A B : Aut) (S P : ℕ) {old : Buffers} {smallest : List ℕ} where
   -- U lacks room
   pub told_u : {err : Full} {e : Ending} → Held (stem_table A B false S) old.smallest smallest (Err err) → e ≡ StemsFull 0 (record { u = S; w = 0; p = 0; t = 0 })
       → Told (walk A B S P) P old (record { smallest = smallest; largest = old.largest; links = old.links; contexts = old.contexts; stem = old.stem; period = old.period }) e
@@ -103,7 +104,7 @@ module _ {A B : Aut} {S P : ℕ} {old : Buffers} (ready : Prepared A B S P old) 
       → Told (walk A B S P) P old (record { smallest = smallest; largest = largest; links = old.links; contexts = old.contexts; stem = old.stem; period = old.period }) e
   unfolding ending_by over stem_shown period_shown
   told_w hu hw is =
-      let u = there ready false hu in
+      let u = there A B S false hu in
       let full = full_is (stem_table A B true S) hw.answer in
       let count = (stems A B true).filled S _ full in
       rw (walk_is (w_full _ _ u.is_ended full), is)
@@ -131,8 +132,8 @@ module _ {A B : Aut} {S P : ℕ} {old : Buffers} (ready : Prepared A B S P old) 
         period = period;
       }) e
   told_rounds hu hw links contexts ran_to s =
-      let u = there ready false hu in
-      let w = there ready true hw in
+      let u = there A B S false hu in
+      let w = there A B S true hw in
       let w_count : length (entries (stem_table A B true S)) ≡ _ = ap length (sym w.part) ∙ w.count in
       let ran_to = rw (u.part, w.part) at ran_to in
       let s = rw (u.part, ← w_count) at s in

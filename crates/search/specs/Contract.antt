@@ -24,7 +24,7 @@ contents l = record {
   period = l.period.now;
 }
 
--- the same buffers are still lent
+-- the same buffers are still lent, each as long as it was
 pub record StillLent (old new : Lent) : Type 0 where
   pub smallest : new.smallest.ghost_name ≡ old.smallest.ghost_name
   pub largest : new.largest.ghost_name ≡ old.largest.ghost_name
@@ -32,6 +32,12 @@ pub record StillLent (old new : Lent) : Type 0 where
   pub contexts : new.contexts.ghost_name ≡ old.contexts.ghost_name
   pub stem : new.stem.ghost_name ≡ old.stem.ghost_name
   pub period : new.period.ghost_name ≡ old.period.ghost_name
+  pub smallest_long : length new.smallest.now ≡ length old.smallest.now
+  pub largest_long : length new.largest.now ≡ length old.largest.now
+  pub links_long : length new.links.now ≡ length old.links.now
+  pub contexts_long : length new.contexts.now ≡ length old.contexts.now
+  pub stem_long : length new.stem.now ≡ length old.stem.now
+  pub period_long : length new.period.now ≡ length old.period.now
 
 -- S and P in range, and lent tables and outputs that are long enough for them
 pub record Enough (S P : ℕ) (lent : Buffers) : Type 0 where

@@ -1,12 +1,13 @@
 //! The walk on loaded automata and lent tables.
 #![tactic(auto)]
 
-ghost use Rattle.std.specs.Prelude.{◌≡◌, ◌*◌, ◌≤◌, length, replicate};
+ghost use Rattle.std.specs.Prelude.{◌≡◌, ◌*◌, ◌≤◌, length, replicate, Some};
 ghost use Rattle.automata.specs.Loaded.{aut};
 ghost use Rattle.growth.specs.Lent.{over};
 ghost use Rattle.walk.specs.Walk.{walk};
 ghost use Rattle.rounds.specs.Finished.{finish_of};
 ghost use Rattle.search.specs.declared.Ending.TheVariants.{StemsFull};
+ghost use Rattle.search.specs.Text.{counts_text};
 ghost use Rattle.search.specs.Contract.{contents, StillLent, Prepared, Concluded, Told, Showable, Shows};
 
 use automata::{Model, Rule};
@@ -42,6 +43,8 @@ pub struct Counts {
 }
 
 impl fmt::Display for Counts {
+    ghost output = { λ counts. Some (counts_text counts) };
+
     fn fmt<W: fmt::Write>(&self, f: &mut fmt::Formatter<W>) -> fmt::Result {
         write!(f, "U={} W={} P={} T={}", self.u, self.w, self.p, self.t)
     }

@@ -3,7 +3,7 @@
 
 ghost use Rattle.std.specs.Prelude.{◌≤◌, length};
 
-use inclusion::{Answer, Letters};
+use inclusion::Answer;
 use search::{Lent, Room};
 use std::fs::File;
 use std::io;
@@ -35,21 +35,32 @@ fn read_full<R: Read + Drop>(mut file: R, buffer: &mut [u8]) -> usize
     done
 }
 
+// The word in an output's first bytes: its name, and for each letter a space and a decimal number.
+fn print_word(rt: &impl Print, name: &str, output: &[u8], count: usize) -> io::Result<()> {
+    print!(rt; "{name}")?;
+    for letter in output.iter().take(count) {
+        print!(rt; " {letter}")?;
+    }
+    println!(rt)
+}
+
+// Each line is written by itself, and of a word each letter: where the output ends midway, all that came before is there.
 fn print(rt: &impl Print, answer: Answer, stem: &[u8], period: &[u8]) -> io::Result<()> {
     match answer {
-        Answer::Included(counts) => println!(rt; "INCLUDED\n{counts}"),
-        Answer::NotIncluded(counts, lengths) => {
-            let stem = Letters {
-                output: stem,
-                count: lengths.stem,
-            };
-            let period = Letters {
-                output: period,
-                count: lengths.period,
-            };
-            println!(rt; "NOT INCLUDED\n{counts}\nstem:{stem}\nperiod:{period}")
+        Answer::Included(counts) => {
+            println!(rt; "INCLUDED")?;
+            println!(rt; "{counts}")
         }
-        Answer::Refused(refusal, counts) => println!(rt; "REFUSED {refusal}\n{counts}"),
+        Answer::NotIncluded(counts, lengths) => {
+            println!(rt; "NOT INCLUDED")?;
+            println!(rt; "{counts}")?;
+            print_word(rt, "stem:", stem, lengths.stem)?;
+            print_word(rt, "period:", period, lengths.period)
+        }
+        Answer::Refused(refusal, counts) => {
+            println!(rt; "REFUSED {refusal}")?;
+            println!(rt; "{counts}")
+        }
     }
 }
 
