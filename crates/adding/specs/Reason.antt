@@ -1,4 +1,4 @@
--- The numbers of the refusals (document 01, "Numbers the tool answers with"). Assumes nothing.
+-- The numbers of the refusals (document 01, "Numbers the tool answers with"), and of a caller's own. Assumes nothing.
 use Rattle.std.specs.Prelude.{ℕ}
 use Rattle.adding.specs.declared.reason.Reason.{Reason}
 use Rattle.adding.specs.declared.reason.Reason.TheVariants.{BrokenLength, UnknownKind, ByteNotZero, PastLimit, ThereAlready, NoInitialState, TooLittleLent, StemsFull, PeriodsFull, EmptyPeriod, LetterPastLimit, Other}

@@ -6,7 +6,7 @@ pub mod relations;
 pub mod tables;
 
 // The initial state, the accepting set, and one more than the largest state number that a record names.
-#[derive(Clone, Copy, Default)]
+#[derive(Clone, Copy)]
 pub struct Head {
     pub start: u8,
     pub accepting: u16,

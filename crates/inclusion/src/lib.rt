@@ -61,14 +61,19 @@ pub fn decide(model: &[u8], rule: &[u8], room: Room, lent: &mut Lent<'_>) -> Ans
         stem: lent.stem.len(),
         period: lent.period.len(),
     };
-    // Each table is read where it stays: nothing of it is copied.
+    // Each table is read where it stays, and nothing of it is copied; until then the heads are none.
+    let head = Head {
+        start: 0,
+        accepting: 0,
+        states: 0,
+    };
     let mut loaded_model = Automaton {
         table: [[0u16; 16]; 16],
-        head: Head::default(),
+        head,
     };
     let mut loaded_rule = Automaton {
         table: [[0u8; 8]; 16],
-        head: Head::default(),
+        head,
     };
     let heads = loading::load(
         model,

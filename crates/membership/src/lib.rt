@@ -95,10 +95,14 @@ fn test_words(model: &Model, stem: &[u8], period: &[u8]) -> Result<bool, Refusal
 pub fn test(records: &[u8], stem: &[u8], period: &[u8]) -> Result<bool, Refusal>
     ensures { TestRight records.now stem.now period.now result }
 {
-    // The table is read where it stays: nothing of it is copied.
+    // The table is read where it stays, and nothing of it is copied; until then the head is none.
     let mut model = Automaton {
         table: [[0u16; 16]; 16],
-        head: Head::default(),
+        head: Head {
+            start: 0,
+            accepting: 0,
+            states: 0,
+        },
     };
     let file = records::read(records, 16, &mut model.table);
     model.head = records::refusal_of(0, file)?;
